@@ -1,0 +1,94 @@
+-- Literal words, the literals that they stand for, and the values of literals over a pool. Assumes nothing.
+use mathlib.Core.Bool.{Bool, true, false, cond}
+use mathlib.Core.List.{List, [], _∷_}
+use Prim.Native.Nat.{ℕ}
+use lib.ListN.{length, getD}
+use lib.Dec.{eqb}
+use lib.IntN.{ℤ}
+use Rattle.words.specs.Word.{wordAt, wordBytes, rangeOf}
+use Rattle.words.specs.Layout.{field, packed}
+use Rattle.literals.specs.Signed.{signed, bitsOf}
+use Rattle.literals.specs.declared.Literal.{Literal}
+use Rattle.literals.specs.declared.Literal.the-variants.{Null, Int, Text, Truth}
+
+-- ---- a literal's word: type(2) length(14) zero(24) offset(24)
+
+abbrev pub literalLayout : List ℕ
+literalLayout = 2 ∷ 14 ∷ 24 ∷ 24 ∷ []
+
+abbrev pub typeOf : ℕ → ℕ
+typeOf w = field literalLayout 0 w
+
+abbrev pub lengthOf : ℕ → ℕ
+lengthOf w = field literalLayout 1 w
+
+abbrev pub zeroOf : ℕ → ℕ
+zeroOf w = field literalLayout 2 w
+
+abbrev pub offsetOf : ℕ → ℕ
+offsetOf w = field literalLayout 3 w
+
+-- types: of a literal, and of a column in the schema
+abbrev pub nullType : ℕ
+nullType = 0
+
+abbrev pub integerType : ℕ
+integerType = 1
+
+abbrev pub textType : ℕ
+textType = 2
+
+abbrev pub truthType : ℕ
+truthType = 3
+
+-- bytes of an integer
+abbrev pub integerBytes : ℕ
+integerBytes = 8
+
+-- the literal of a word, a total reading
+unfoldable pub literalOf : List ℕ → ℕ → Literal
+literalOf pool w =
+    getD
+    (Null
+    ∷ Int (signed (wordAt pool (offsetOf w)))
+    ∷ Text (record { at = offsetOf w; len = lengthOf w })
+    ∷ Truth (eqb (offsetOf w) 1)
+    ∷ [])
+    (typeOf w) Null
+
+-- ---- values
+
+pub data Value : Type 0 where
+  null : Value
+  int : ℤ → Value
+  text : List ℕ → Value
+  truth : Bool → Value
+
+-- the value of a literal, its text taken out of the pool
+abbrev pub valueOf : List ℕ → Literal → Value
+valueOf pool Null = null
+valueOf pool (Int z) = int z
+valueOf pool (Text r) = text (rangeOf pool r)
+valueOf pool (Truth b) = truth b
+
+-- the value of a literal word
+abbrev pub valueAt : List ℕ → ℕ → Value
+valueAt pool w = valueOf pool (literalOf pool w)
+
+-- ---- values as words: a pool's bytes, and the word of a value whose bytes stand at an offset
+
+abbrev pub valueBytes : Value → List ℕ
+valueBytes null = []
+valueBytes (int z) = wordBytes (bitsOf z)
+valueBytes (text bs) = bs
+valueBytes (truth b) = []
+
+abbrev pub bitOf : Bool → ℕ
+bitOf true = 1
+bitOf false = 0
+
+abbrev pub valueWord : ℕ → Value → ℕ
+valueWord offset null = 0
+valueWord offset (int z) = packed literalLayout (integerType ∷ integerBytes ∷ 0 ∷ offset ∷ [])
+valueWord offset (text bs) = packed literalLayout (textType ∷ length bs ∷ 0 ∷ offset ∷ [])
+valueWord offset (truth b) = packed literalLayout (truthType ∷ 0 ∷ 0 ∷ bitOf b ∷ [])

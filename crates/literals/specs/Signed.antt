@@ -1,0 +1,61 @@
+-- Integers: two's complement in 64 bits, as exact integers; minus, which is exact. `negsuc k` is -(k + 1). Assumes nothing.
+use mathlib.Core.Path.{_≡_, refl, ap}
+use mathlib.Core.Bool.{cond}
+use Prim.Native.Nat.{ℕ, _-_, _^_, _≤_, _<_}
+use native.Mathlib.Omega.{arith}
+use lib.Dec.{ltb, eqb}
+use lib.IntN.{ℤ, pos, negsuc, negℤ}
+use borrow.Author.Tests.{lt-ltb, le-ltb, ne-eqb}
+use Rattle.literals.specs.declared.Negated.{Negated}
+use Rattle.literals.specs.declared.Negated.the-variants.{To, Unhandled}
+
+-- the integer that 64 bits stand for
+unfoldable pub signed : ℕ → ℤ
+signed n = cond (ltb n (2 ^ 63)) (pos n) (negsuc (2 ^ 64 - 1 - n))
+
+pub signed-low : (n : ℕ) → n < 2 ^ 63 → signed n ≡ pos n
+unfolding signed
+signed-low n h = rw (lt-ltb n (2 ^ 63) h)
+
+pub signed-high : (n : ℕ) → 2 ^ 63 ≤ n → signed n ≡ negsuc (2 ^ 64 - 1 - n)
+unfolding signed
+signed-high n h = rw (le-ltb n (2 ^ 63) h)
+
+-- the 64 bits of an integer
+abbrev pub bitsOf : ℤ → ℕ
+bitsOf (pos n) = n
+bitsOf (negsuc n) = 2 ^ 64 - 1 - n
+
+-- an integer that has 64 bits
+abbrev pub Fits64 : ℤ → Type 0
+Fits64 (pos n) = n < 2 ^ 63
+Fits64 (negsuc n) = n < 2 ^ 63
+
+-- the bits of an integer stand for it
+pub signed-bits : (z : ℤ) → Fits64 z → signed (bitsOf z) ≡ z
+signed-bits (pos n) h = signed-low n h
+signed-bits (negsuc n) h =
+    let e : 2 ^ 64 - 1 - (2 ^ 64 - 1 - n) ≡ n = omega arith in
+    rw (signed-high (2 ^ 64 - 1 - n) (omega arith), e)
+
+pub bits-fit : (z : ℤ) → Fits64 z → bitsOf z < 2 ^ 64
+bits-fit (pos n) h = omega arith
+bits-fit (negsuc n) h = omega arith
+
+-- -2 ^ 63
+abbrev pub leastInteger : ℤ
+leastInteger = negsuc (2 ^ 63 - 1)
+
+-- minus a literal; that of -2 ^ 63 is left unhandled
+unfoldable pub negated : ℤ → Negated
+negated (pos n) = To (negℤ (pos n))
+negated (negsuc n) = cond (eqb n (2 ^ 63 - 1)) Unhandled (To (negℤ (negsuc n)))
+
+pub negated-least : negated leastInteger ≡ Unhandled
+unfolding negated
+negated-least = refl
+
+pub negated-to : (z : ℤ) → (z ≡ leastInteger → ⊥) → negated z ≡ To (negℤ z)
+unfolding negated
+negated-to (pos n) h = refl
+negated-to (negsuc n) h = rw (ne-eqb n (2 ^ 63 - 1) (λ e. h (ap negsuc e)))
