@@ -3,4 +3,5 @@ pub mod WordLaws
 pub mod Layout
 pub mod LayoutLaws
 pub mod Stores
+pub mod Pools
 pub mod Bytes
