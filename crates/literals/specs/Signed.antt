@@ -1,11 +1,11 @@
 -- Integers: two's complement in 64 bits, as exact integers; minus, which is exact. `negsuc k` is -(k + 1). Assumes nothing.
 use mathlib.Core.Path.{_≡_, refl, ap}
-use mathlib.Core.Bool.{cond}
+use mathlib.Core.Bool.{Bool, true, false, cond}
 use Prim.Native.Nat.{ℕ, _-_, _^_, _≤_, _<_}
 use native.Mathlib.Omega.{arith}
 use lib.Dec.{ltb, eqb}
 use lib.IntN.{ℤ, pos, negsuc, negℤ}
-use borrow.Author.Tests.{lt-ltb, le-ltb, ne-eqb}
+use borrow.Author.Tests.{lt-ltb, le-ltb, ltb-true, ltb-false, ne-eqb}
 use Rattle.literals.specs.declared.Negated.{Negated}
 use Rattle.literals.specs.declared.Negated.the-variants.{To, Unhandled}
 
@@ -41,6 +41,21 @@ signed-bits (negsuc n) h =
 pub bits-fit : (z : ℤ) → Fits64 z → bitsOf z < 2 ^ 64
 bits-fit (pos n) h = omega arith
 bits-fit (negsuc n) h = omega arith
+
+pub signed-fits : (n : ℕ) → n < 2 ^ 64 → Fits64 (signed n)
+signed-fits n h = go (ltb n (2 ^ 63)) refl
+  where
+    go : (t : Bool) → ltb n (2 ^ 63) ≡ t → Fits64 (signed n)
+    go true e = let l = ltb-true n (2 ^ 63) e in rw (signed-low n l) l
+    go false e = let g = ltb-false n (2 ^ 63) e in rw (signed-high n g) (omega arith)
+
+-- bits are those of the integer that they stand for
+pub bits-signed : (n : ℕ) → n < 2 ^ 64 → bitsOf (signed n) ≡ n
+bits-signed n h = go (ltb n (2 ^ 63)) refl
+  where
+    go : (t : Bool) → ltb n (2 ^ 63) ≡ t → bitsOf (signed n) ≡ n
+    go true e = rw (signed-low n (ltb-true n (2 ^ 63) e))
+    go false e = let g = ltb-false n (2 ^ 63) e in rw (signed-high n g) (omega arith)
 
 -- -2 ^ 63
 abbrev pub leastInteger : ℤ

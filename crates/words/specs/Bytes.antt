@@ -7,6 +7,8 @@ use Prim.Native.Nat.{ℕ, _<_}
 use native.Mathlib.Omega.{arith}
 use lib.Dec.{ltb}
 use borrow.Author.Tests.{lt-ltb, le-ltb, ltb-true, ltb-false, not-true, not-false}
+use Rattle.words.specs.declared.Order.{Order}
+use Rattle.words.specs.declared.Order.the-variants.{Less, Equal, Greater}
 
 -- a is below b
 unfoldable pub below : List ℕ → List ℕ → Bool
@@ -114,3 +116,57 @@ upTo-anti (x ∷ a) (y ∷ b) e f =
     ⊎-elim (λ p. ⊎-elim (λ q. absurd (omega arith)) (λ q. absurd (omega arith)) (upTo-cons y x b a f))
     (λ p. ⊎-elim (λ q. absurd (omega arith)) (λ q. let r = upTo-anti a b (p .1) (q .1) in cc (p .0)) (upTo-cons y x b a f))
     (upTo-cons x y a b e)
+
+-- ---- how two byte strings compare
+
+unfoldable pub byteOrder : List ℕ → List ℕ → Order
+byteOrder a b = cond (below a b) Less (cond (below b a) Greater Equal)
+
+pub order-below : (a b : List ℕ) → below a b ≡ true → byteOrder a b ≡ Less
+unfolding byteOrder
+order-below a b h = rw h
+
+pub order-above : (a b : List ℕ) → below b a ≡ true → byteOrder a b ≡ Greater
+unfolding byteOrder
+order-above a b h = rw (below-asym b a h, h)
+
+pub order-same : (a : List ℕ) → byteOrder a a ≡ Equal
+unfolding byteOrder
+order-same a = rw (below-irrefl a)
+
+-- a common first byte, or a common front, changes nothing
+pub order-self : (x : ℕ) (xs ys : List ℕ) → byteOrder (x ∷ xs) (x ∷ ys) ≡ byteOrder xs ys
+unfolding byteOrder
+order-self x xs ys = rw (below-self x xs ys, below-self x ys xs)
+
+pub order-front : (p a b : List ℕ) → byteOrder (p ++ a) (p ++ b) ≡ byteOrder a b
+unfolding byteOrder
+order-front p a b = rw (below-front p a b, below-front p b a)
+
+-- and what an answer says
+pub order-less : (a b : List ℕ) → byteOrder a b ≡ Less → below a b ≡ true
+unfolding byteOrder
+order-less a b e = go (below a b) (below b a) e
+  where
+    go : (p q : Bool) → cond p Less (cond q Greater Equal) ≡ Less → p ≡ true
+    go true q e = refl
+    go false true e = let z : _≡_ {A = ℕ} 0 1 = cc in absurd (omega arith)
+    go false false e = let z : _≡_ {A = ℕ} 0 1 = cc in absurd (omega arith)
+
+pub order-greater : (a b : List ℕ) → byteOrder a b ≡ Greater → below b a ≡ true
+unfolding byteOrder
+order-greater a b e = go (below a b) (below b a) e
+  where
+    go : (p q : Bool) → cond p Less (cond q Greater Equal) ≡ Greater → q ≡ true
+    go true q e = let z : _≡_ {A = ℕ} 0 1 = cc in absurd (omega arith)
+    go false true e = refl
+    go false false e = let z : _≡_ {A = ℕ} 0 1 = cc in absurd (omega arith)
+
+pub order-equal : (a b : List ℕ) → byteOrder a b ≡ Equal → a ≡ b
+unfolding byteOrder upTo
+order-equal a b e = go (below a b) (below b a) refl refl e
+  where
+    go : (p q : Bool) → below a b ≡ p → below b a ≡ q → cond p Less (cond q Greater Equal) ≡ Equal → a ≡ b
+    go true q f g e = let z : _≡_ {A = ℕ} 0 1 = cc in absurd (omega arith)
+    go false true f g e = let z : _≡_ {A = ℕ} 0 1 = cc in absurd (omega arith)
+    go false false f g e = upTo-anti a b (rw g) (rw f)
