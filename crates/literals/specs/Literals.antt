@@ -1,9 +1,9 @@
 -- Literal words, the literals that they stand for, and the values of literals over a pool. Assumes nothing.
-use mathlib.Core.Bool.{Bool, true, false, cond}
+use mathlib.Core.Bool.{Bool, true, false, _&&_, _||_}
 use mathlib.Core.List.{List, [], _∷_}
-use Prim.Native.Nat.{ℕ}
+use Prim.Native.Nat.{ℕ, _+_}
 use lib.ListN.{length, getD}
-use lib.Dec.{eqb}
+use lib.Dec.{eqb, leb, ltb}
 use lib.IntN.{ℤ}
 use Rattle.words.specs.Word.{wordAt, wordBytes, rangeOf}
 use Rattle.words.specs.Layout.{field, packed}
@@ -44,6 +44,25 @@ truthType = 3
 -- bytes of an integer
 abbrev pub integerBytes : ℕ
 integerBytes = 8
+
+-- no unnamed field set; of a null, none at all
+abbrev pub plain : ℕ → Bool
+plain w = eqb (zeroOf w) 0 && (ltb 0 (typeOf w) || (eqb (lengthOf w) 0 && eqb (offsetOf w) 0))
+
+-- its bytes lie inside the pool
+abbrev pub inside : List ℕ → ℕ → Bool
+inside pool w = leb (offsetOf w + lengthOf w) (length pool)
+
+-- null, or of the type asked, of that type's length or truth value, and inside the pool
+unfoldable pub suits : List ℕ → ℕ → ℕ → Bool
+suits pool type w =
+    getD
+    (true
+    ∷ (eqb type integerType && (eqb (lengthOf w) integerBytes && inside pool w))
+    ∷ (eqb type textType && inside pool w)
+    ∷ (eqb type truthType && (eqb (lengthOf w) 0 && leb (offsetOf w) 1))
+    ∷ [])
+    (typeOf w) false
 
 -- the literal of a word, a total reading
 unfoldable pub literalOf : List ℕ → ℕ → Literal

@@ -1,0 +1,1 @@
+// What the definitions say of document 01's own cases. No function.

@@ -1,0 +1,1 @@
+// Guarantees: what a predicate asks of a column's values as a set.

@@ -1,0 +1,1 @@
+// Total orders, and how values compare. No function.

@@ -1,0 +1,4 @@
+pub mod TableReading
+pub mod TableChecking
+pub mod Cells
+pub mod Evaluating

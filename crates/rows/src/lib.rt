@@ -1,0 +1,1 @@
+// What a predicate means on a row. Definitions only.

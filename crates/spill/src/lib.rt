@@ -1,0 +1,1 @@
+// Whole rewriting and whole pruning.

@@ -1,0 +1,4 @@
+pub mod Tables
+pub mod Comparisons
+pub mod Rewriting
+pub mod Encoding
