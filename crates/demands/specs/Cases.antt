@@ -14,17 +14,16 @@ use Rattle.text.specs.Utf8 as Utf8
 use Rattle.text.specs.Increment.{increment, raised, allowed}
 use Rattle.text.specs.Chars.{charsOf, charsFrom, incremented}
 use Rattle.text.specs.Pattern.{prefixOf, restOf}
-use Rattle.text.specs.Upper.{upperBy}
 use Rattle.predicate.specs.Nodes.{nodeOf}
 use Rattle.predicate.specs.Predicates.{valuesAt, predicateAt}
 use Rattle.predicate.specs.Checking.{formed, checkLiteral, checkLiterals, nodeFault, checkFrom, predicateFault}
-use Rattle.statistics.specs.Statistics.{statisticOf, placeOf, added, addedAll}
+use Rattle.statistics.specs.Statistics.{statisticOf, statisticsOf, placeOf, added, addedAll}
 use Rattle.table.specs.Comparisons.{minuses, turned}
 use Rattle.table.specs.Rewriting.{membersTable, membersLists, rewritten, lists}
 use Rattle.table.specs.Encoding.{poolOf, tableWords}
 use Rattle.guarantees.specs.Guarantees.{guarantees}
 use Rattle.pruning.specs.TableReading.{tableNodeOf, tableAt}
-use Rattle.pruning.specs.TableChecking.{statisticFine, statisticsFine, statisticsOf, guaranteesFine, tableFormed, checkTableFrom, tableFine, checkedTable}
+use Rattle.pruning.specs.TableChecking.{statisticFine, statisticsFine, guaranteesFine, tableFormed, checkTableFrom, tableFine, checkedTable}
 use Rattle.pruning.specs.Cells.{rowFine, rowsFine, cellOf, upToTwo}
 use Rattle.pruning.specs.Evaluating.{worth, answersDrop}
 use Rattle.spill.specs.Rewrite.{Rooms, Outcome, writes, typesFine, rewriteFault, rewriting, answerWord, tableOut, poolOut, statisticsOut, guaranteesOut}
@@ -175,5 +174,5 @@ cases =
     ∷ []
 
 pub hold : All cases
-unfolding rewritingOf pruningBy wordAt wordBytes firstWords wordsOf bytesOf signed negated suits literalOf below upTo isUtf8 runs stepOf leadOf Utf8.encode Utf8.bytesOf increment raised allowed charsOf charsFrom incremented prefixOf restOf upperBy nodeOf valuesAt predicateAt formed checkLiteral checkLiterals nodeFault checkFrom predicateFault statisticOf placeOf added addedAll minuses turned membersTable membersLists rewritten lists poolOf tableWords guarantees tableNodeOf tableAt statisticFine statisticsFine statisticsOf guaranteesFine tableFormed checkTableFrom tableFine checkedTable rowFine rowsFine cellOf upToTwo worth answersDrop typesFine rewriteFault rewriting pruneFault flagIn flagsFrom pruning
+unfolding rewritingOf pruningBy wordAt wordBytes firstWords wordsOf bytesOf signed negated suits literalOf below upTo isUtf8 runs stepOf leadOf Utf8.encode Utf8.bytesOf increment raised allowed charsOf charsFrom incremented prefixOf restOf nodeOf valuesAt predicateAt formed checkLiteral checkLiterals nodeFault checkFrom predicateFault statisticOf placeOf added addedAll minuses turned membersTable membersLists rewritten lists poolOf tableWords guarantees tableNodeOf tableAt statisticFine statisticsFine statisticsOf guaranteesFine tableFormed checkTableFrom tableFine checkedTable rowFine rowsFine cellOf upToTwo worth answersDrop typesFine rewriteFault rewriting pruneFault flagIn flagsFrom pruning
 hold = ((refl, refl), ((refl, refl), (refl, (refl, (refl, (refl, (refl, (refl, (refl, (refl, (refl, (refl, (refl, (refl, (refl, (refl, (refl, (refl, (refl, tt)))))))))))))))))))

@@ -9,7 +9,8 @@ use Rattle.kleene.specs.declared.Joining.{Joining}
 use Rattle.kleene.specs.declared.Joining.the-variants.{And, Or}
 use Rattle.literals.specs.Literals.{Value, null, int, text, truth, bitOf}
 use Rattle.predicate.specs.declared.Column.{Column}
-use Rattle.predicate.specs.Predicates.{Predicate, constant, join, not, column, isNull, isNotNull, comparison, list, like, width}
+use Rattle.predicate.specs.Predicates.{Predicate, constant, join, not, column, isNull, isNotNull, comparison, list, like}
+use Rattle.predicate.specs.Measures.{width}
 
 -- In, or NotIn, the set; with its node word's place
 pub record Guarantee : Type 0 where

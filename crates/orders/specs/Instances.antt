@@ -75,4 +75,3 @@ leZ-total (negsuc a) (negsuc b) e = total-leb b a e
 
 abbrev pub numbers : TotalOrder
 numbers = record { Value = ℤ; leb = leZ; le-refl = leZ-refl; le-trans = leZ-trans; le-anti = leZ-anti; le-total = leZ-total }
-

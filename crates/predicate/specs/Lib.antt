@@ -1,3 +1,4 @@
 pub mod Nodes
 pub mod Predicates
+pub mod Measures
 pub mod Checking

@@ -4,7 +4,7 @@ use mathlib.Core.Bool.{Bool}
 use mathlib.Core.List.{List, [], _∷_}
 use Prim.Native.Nat.{ℕ, zero, suc, _+_, _-_}
 use native.Mathlib.Numerals.{sub-one}
-use lib.ListN.{length, getD}
+use lib.ListN.{getD}
 use Rattle.operators.specs.declared.Operator.{Operator}
 use Rattle.kleene.specs.declared.Truth.{Truth}
 use Rattle.kleene.specs.declared.Truth.the-variants.{Unknown}
@@ -80,16 +80,3 @@ pub read-node : (pool ws : List ℕ) (d at : ℕ) → (d ≡ 0 → ⊥) → (n :
 unfolding predicateAt
 read-node pool ws zero at h n e = absurd (h refl)
 read-node pool ws (suc d) at h n e = rw (sub-one, e)
-
--- ---- the words of a predicate
-
-abbrev pub width : Predicate → ℕ
-width (constant t) = 1
-width (join j l r) = 1 + width l + width r
-width (not p) = 1 + width p
-width (column c) = 1
-width (isNull c) = 1
-width (isNotNull c) = 1
-width (comparison o c n b v) = 2
-width (list b c n vs) = 1 + length vs
-width (like b c v) = 2

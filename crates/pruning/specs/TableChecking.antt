@@ -36,11 +36,6 @@ unfoldable pub statisticsFine : List ℕ → List ℕ → Bool
 statisticsFine schema [] = true
 statisticsFine schema (w ∷ ws) = statisticFine schema w && (not (standsIn w ws) && statisticsFine schema ws)
 
--- the list that words stand for
-unfoldable pub statisticsOf : List ℕ → List Statistic
-statisticsOf [] = []
-statisticsOf (w ∷ ws) = Statistics.statisticOf w ∷ statisticsOf ws
-
 -- ---- guarantees; a guarantee's place is not checked
 
 unfoldable pub guaranteesFine : List ℕ → List ℕ → Bool
@@ -172,4 +167,4 @@ checkedTable schema table pool stats guars =
     && (wordsWithin guars guaranteesRoom
     && (statisticsFine schema (wordsOf stats)
     && (guaranteesFine schema (wordsOf guars)
-    && tableFine schema (statisticsOf (wordsOf stats)) pool (wordsOf table))))))
+    && tableFine schema (Statistics.statisticsOf (wordsOf stats)) pool (wordsOf table))))))

@@ -1,5 +1,5 @@
 -- Row meaning: the truth value of a predicate on a row, under SQL's three-valued logic. Assumes nothing.
-use mathlib.Core.Bool.{Bool, true, false} 
+use mathlib.Core.Bool.{Bool, true, false}
 use mathlib.Core.Bool as Bools
 use mathlib.Core.List.{List, [], _∷_}
 use Prim.Native.Nat.{ℕ, zero, suc}

@@ -6,10 +6,11 @@ use lib.ListN.{length}
 use lib.Dec.{eqb, leb}
 use Rattle.limits.specs.Limits.{maxContainers, maxTableDepth, badSchema, badContainers, badTable, badGrid, badAnswers}
 use Rattle.words.specs.Word.{wordsOf}
+use Rattle.statistics.specs.Statistics.{statisticsOf}
 use Rattle.statistics.specs.declared.Statistic.{Statistic}
 use Rattle.table.specs.Tables.{Table}
 use Rattle.pruning.specs.TableReading.{tableAt}
-use Rattle.pruning.specs.TableChecking.{checkedTable, statisticsOf}
+use Rattle.pruning.specs.TableChecking.{checkedTable}
 use Rattle.pruning.specs.Cells.{rowsFine, cellOf, answersFine}
 use Rattle.pruning.specs.Evaluating.{worth, answersDrop, flagOf}
 use Rattle.spill.specs.Rewrite.{schemaFine}

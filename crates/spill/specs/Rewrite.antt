@@ -10,9 +10,7 @@ use Rattle.words.specs.Layout.{packed}
 use Rattle.literals.specs.Literals.{integerType, truthType}
 use Rattle.predicate.specs.Predicates.{Predicate, predicateAt}
 use Rattle.predicate.specs.Checking.{predicateFault}
-use Rattle.statistics.specs.Statistics.{statisticWord}
-use Rattle.statistics.specs.declared.Statistic.{Statistic}
-use Rattle.table.specs.Tables.{Table}
+use Rattle.statistics.specs.Statistics.{statisticWords}
 use Rattle.table.specs.Rewriting.{rewritten, statistics}
 use Rattle.table.specs.Encoding.{tableWords, poolOf}
 use Rattle.guarantees.specs.Guarantees.{guarantees, guaranteeWords}
@@ -59,10 +57,6 @@ pub data Outcome : Type 0 where
 -- the predicate of the call's words
 abbrev pub predicateOf : List ℕ → List ℕ → Predicate
 predicateOf predicate pool = predicateAt pool (wordsOf predicate) maxDepth 0 .predicate
-
-abbrev pub statisticWords : List Statistic → List ℕ
-statisticWords [] = []
-statisticWords (s ∷ ss) = statisticWord s ∷ statisticWords ss
 
 abbrev pub outputs : ℕ → List ℕ → Predicate → Outcome
 outputs limit schema p =

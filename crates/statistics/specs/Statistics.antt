@@ -46,6 +46,15 @@ statisticOf w =
     let c : Column = record { 0 = columnField w } in
     getD (Least c ∷ Greatest c ∷ Blanks c ∷ Rows ∷ []) (typeField w) Rows
 
+abbrev pub statisticWords : List Statistic → List ℕ
+statisticWords [] = []
+statisticWords (s ∷ ss) = statisticWord s ∷ statisticWords ss
+
+-- the list that words stand for
+unfoldable pub statisticsOf : List ℕ → List Statistic
+statisticsOf [] = []
+statisticsOf (w ∷ ws) = statisticOf w ∷ statisticsOf ws
+
 -- ---- the list
 
 -- column and type as one number
