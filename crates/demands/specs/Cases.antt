@@ -21,11 +21,12 @@ use Rattle.statistics.specs.Statistics.{statisticOf, statisticsOf, placeOf, add
 use Rattle.table.specs.Comparisons.{minuses, turned}
 use Rattle.table.specs.Rewriting.{membersTable, membersLists, rewritten, lists}
 use Rattle.table.specs.Encoding.{poolOf, tableWords}
+use Rattle.table.specs.Worth.{worth}
 use Rattle.guarantees.specs.Guarantees.{guarantees}
 use Rattle.pruning.specs.TableReading.{tableNodeOf, tableAt}
 use Rattle.pruning.specs.TableChecking.{statisticFine, statisticsFine, guaranteesFine, tableFormed, checkTableFrom, tableFine, checkedTable}
 use Rattle.pruning.specs.Cells.{rowFine, rowsFine, cellOf, upToTwo}
-use Rattle.pruning.specs.Evaluating.{worth, answersDrop}
+use Rattle.pruning.specs.Evaluating.{answersDrop}
 use Rattle.spill.specs.Rewrite.{Rooms, Outcome, writes, typesFine, rewriteFault, rewriting, answerWord, tableOut, poolOut, statisticsOut, guaranteesOut}
 use Rattle.spill.specs.Prune.{Call, Pruned, flags, pruneFault, flagIn, flagsFrom, pruning}
 

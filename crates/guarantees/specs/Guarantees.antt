@@ -2,6 +2,7 @@
 use mathlib.Core.Bool.{Bool, true, false}
 use mathlib.Core.List.{List, [], _∷_, _++_}
 use Prim.Native.Nat.{ℕ, zero, suc, _+_}
+use lib.Dec.{eqb}
 use Rattle.words.specs.Layout.{field, packed}
 use Rattle.operators.specs.declared.Operator.{Operator}
 use Rattle.operators.specs.declared.Operator.the-variants.{Equal, NotEqual, Below, AtMost, Above, AtLeast, Distinct, NotDistinct}
@@ -62,6 +63,11 @@ guarantees at (isNotNull c) = []
 guarantees at (comparison o c n b v) = ofComparison o at c n v
 guarantees at (list b c n vs) = unflipped n at c b vs
 guarantees at (like b c v) = []
+
+-- In drops on answer 2, NotIn on answer 1
+abbrev pub answerDrops : Bool → ℕ → Bool
+answerDrops false a = eqb a 2
+answerDrops true a = eqb a 1
 
 -- ---- a guarantee's word: column(8) not-in(1) node word's place(16)
 

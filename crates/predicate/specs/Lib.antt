@@ -2,3 +2,5 @@ pub mod Nodes
 pub mod Predicates
 pub mod Measures
 pub mod Checking
+pub mod Meaning
+pub mod Rows

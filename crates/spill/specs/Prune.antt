@@ -9,10 +9,11 @@ use Rattle.words.specs.Word.{wordsOf}
 use Rattle.statistics.specs.Statistics.{statisticsOf}
 use Rattle.statistics.specs.declared.Statistic.{Statistic}
 use Rattle.table.specs.Tables.{Table}
+use Rattle.table.specs.Worth.{worth}
 use Rattle.pruning.specs.TableReading.{tableAt}
 use Rattle.pruning.specs.TableChecking.{checkedTable}
 use Rattle.pruning.specs.Cells.{rowsFine, cellOf, answersFine}
-use Rattle.pruning.specs.Evaluating.{worth, answersDrop, flagOf}
+use Rattle.pruning.specs.Evaluating.{answersDrop, flagOf}
 use Rattle.spill.specs.Rewrite.{schemaFine}
 
 -- what a pruning call is given, in bytes but for the container count and the room for flags

@@ -69,7 +69,7 @@ abbrev pub listJoining : Bool → Joining
 listJoining false = Or
 listJoining true = And
 
-module _ (limit : ℕ) (schema : List ℕ) where
+module _ (schema : List ℕ) where
   abbrev pub comparisonTable : Operator → Column → ℕ → Bool → Value → Table
   comparisonTable o c n b v = turnedForm c (turned (typeIn schema (c .0)) o n b v)
 
@@ -89,12 +89,13 @@ module _ (limit : ℕ) (schema : List ℕ) where
   nestedTable b c n [] = unhandled
   nestedTable b c n (v ∷ vs) = membersTable b c n (comparisonTable (listOperator b) c n false v) vs
 
+module _ (limit : ℕ) (schema : List ℕ) where
   -- rewritten from 1 literal up to the limit; else unhandled, nothing listed
   abbrev pub listTable : Bool → Column → ℕ → List Value → Table
-  listTable b c n vs = cond (leb (length vs) limit) (nestedTable b c n vs) unhandled
+  listTable b c n vs = cond (leb (length vs) limit) (nestedTable schema b c n vs) unhandled
 
   abbrev pub listLists : Bool → Column → ℕ → List Value → List Statistic
-  listLists b c n vs = cond (leb (length vs) limit) (membersLists b c n vs) []
+  listLists b c n vs = cond (leb (length vs) limit) (membersLists schema b c n vs) []
 
   unfoldable pub rewritten : Predicate → Table
   rewritten (constant t) = constantTable t
@@ -103,7 +104,7 @@ module _ (limit : ℕ) (schema : List ℕ) where
   rewritten (column c) = columnTable c
   rewritten (isNull c) = hasBlanks c
   rewritten (isNotNull c) = hasValues c
-  rewritten (comparison o c n b v) = comparisonTable o c n b v
+  rewritten (comparison o c n b v) = comparisonTable schema o c n b v
   rewritten (list b c n vs) = listTable b c n vs
   rewritten (like b c v) = likeTable b c v
 
@@ -115,7 +116,7 @@ module _ (limit : ℕ) (schema : List ℕ) where
   lists (column c) = columnLists c
   lists (isNull c) = Blanks c ∷ []
   lists (isNotNull c) = Blanks c ∷ Rows ∷ []
-  lists (comparison o c n b v) = comparisonStatistics o c n b v
+  lists (comparison o c n b v) = comparisonStatistics schema o c n b v
   lists (list b c n vs) = listLists b c n vs
   lists (like b c v) = likeLists b c v
 

@@ -13,10 +13,9 @@ use Rattle.kleene.specs.Truths.{truthOf, kleene, kleeneNot, kleeneAnd, kleeneOr
 use Rattle.literals.specs.Literals.{Value, null, int, text, truth}
 use Rattle.text.specs.Match.{likeText}
 use Rattle.orders.specs.Values as Values
-use Rattle.orders.specs.Values.{compared}
+use Rattle.orders.specs.Values.{compared, comparedFrom, truthIn}
 use Rattle.predicate.specs.declared.Column.{Column}
 use Rattle.predicate.specs.Predicates.{Predicate, constant, join, not, column, isNull, isNotNull, comparison, list, like}
-use Rattle.pruning.specs.Evaluating.{truthIn, comparedFrom}
 
 -- a row: the value of each column, null for a blank
 abbrev pub Row : Type 0

@@ -1,3 +1,0 @@
-pub mod Order
-pub mod Instances
-pub mod Values

@@ -1,1 +1,0 @@
-// Total orders, and how values compare. No function.

@@ -1,1 +1,0 @@
-// What a predicate means on a row. Definitions only.
