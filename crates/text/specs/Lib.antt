@@ -1,0 +1,9 @@
+pub mod Utf8
+pub mod Increment
+pub mod Chars
+pub mod Machine
+pub mod Valid
+pub mod Pattern
+pub mod Match
+pub mod Upper
+pub mod Cases
