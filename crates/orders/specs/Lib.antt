@@ -1,0 +1,5 @@
+pub mod Order
+pub mod Forms
+pub mod Instances
+pub mod Likes
+pub mod Cases
