@@ -14,6 +14,7 @@ use Rattle.text.specs.Utf8 as Utf8
 use Rattle.text.specs.Increment.{increment, raised, allowed}
 use Rattle.text.specs.Chars.{charsOf, charsFrom, incremented}
 use Rattle.text.specs.Pattern.{prefixOf, restOf}
+use Rattle.orders.specs.Order.{orderBy}
 use Rattle.predicate.specs.Nodes.{nodeOf}
 use Rattle.predicate.specs.Predicates.{valuesAt, predicateAt}
 use Rattle.predicate.specs.Checking.{formed, checkLiteral, checkLiterals, nodeFault, checkFrom, predicateFault}
@@ -175,5 +176,5 @@ cases =
     ∷ []
 
 pub hold : All cases
-unfolding rewritingOf pruningBy wordAt wordBytes firstWords wordsOf bytesOf signed negated suits literalOf below upTo isUtf8 runs stepOf leadOf Utf8.encode Utf8.bytesOf increment raised allowed charsOf charsFrom incremented prefixOf restOf nodeOf valuesAt predicateAt formed checkLiteral checkLiterals nodeFault checkFrom predicateFault statisticOf placeOf added addedAll minuses turned membersTable membersLists rewritten lists poolOf tableWords guarantees tableNodeOf tableAt statisticFine statisticsFine statisticsOf guaranteesFine tableFormed checkTableFrom tableFine checkedTable rowFine rowsFine cellOf upToTwo worth answersDrop typesFine rewriteFault rewriting pruneFault flagIn flagsFrom pruning
+unfolding rewritingOf pruningBy orderBy wordAt wordBytes firstWords wordsOf bytesOf signed negated suits literalOf below upTo isUtf8 runs stepOf leadOf Utf8.encode Utf8.bytesOf increment raised allowed charsOf charsFrom incremented prefixOf restOf nodeOf valuesAt predicateAt formed checkLiteral checkLiterals nodeFault checkFrom predicateFault statisticOf placeOf added addedAll minuses turned membersTable membersLists rewritten lists poolOf tableWords guarantees tableNodeOf tableAt statisticFine statisticsFine statisticsOf guaranteesFine tableFormed checkTableFrom tableFine checkedTable rowFine rowsFine cellOf upToTwo worth answersDrop typesFine rewriteFault rewriting pruneFault flagIn flagsFrom pruning
 hold = ((refl, refl), ((refl, refl), (refl, (refl, (refl, (refl, (refl, (refl, (refl, (refl, (refl, (refl, (refl, (refl, (refl, (refl, (refl, (refl, (refl, tt)))))))))))))))))))

@@ -8,7 +8,7 @@ use Prim.Native.Nat.{ℕ}
 use Prim.Native.Char.{code}
 use Prim.Native.String as Quoted
 use Prim.Native.String.{String}
-use Rattle.text.specs.Utf8.{encode, bytesOf}
+use Rattle.text.specs.Utf8.{Each, encode, bytesOf}
 use Rattle.text.specs.Increment.{increment, raised, allowed}
 use Rattle.text.specs.Chars.{charsOf, charsFrom, inBytes, incremented}
 use Rattle.text.specs.Machine.{leadOf, stepOf, runs, isUtf8}
@@ -39,20 +39,15 @@ pub data Case : Type 0 where
   Like : LikeCase → Case
   Bytes : List ℕ → Bool → Case
 
--- each row has that answer
-abbrev pub Answer : Bool → List ℕ → List (List ℕ) → Type 0
-Answer b p [] = Unit {0}
-Answer b p (s ∷ ss) = (likeText (bytesOf p) (bytesOf s) ≡ b) × Answer b p ss
-
 abbrev pub Holds : Case → Type 0
 Holds (Bytes bs b) = isUtf8 bs ≡ b
 Holds (Like c) =
     (prefixOf false (bytesOf (c .pattern)) ≡ bytesOf (c .prefix)) × (restOf false (bytesOf (c .pattern)) ≡ bytesOf (c .rest))
-    × (upperOf (bytesOf (c .pattern)) ≡ inBytes (c .upper)) × Answer true (c .pattern) (c .matching) × Answer false (c .pattern) (c .others)
+    × (upperOf (bytesOf (c .pattern)) ≡ inBytes (c .upper)) × Each (λ s. likeText (bytesOf (c .pattern)) (bytesOf s) ≡ true) (c .matching)
+    × Each (λ s. likeText (bytesOf (c .pattern)) (bytesOf s) ≡ false) (c .others)
 
 abbrev pub All : List Case → Type 0
-All [] = Unit {0}
-All (c ∷ cs) = Holds c × All cs
+All cs = Each Holds cs
 
 -- the last six: U+D7FF U+E000, a surrogate, U+FFFF, an overlong form, one above 10FFFF, a character cut short
 abbrev pub textCases : List Case

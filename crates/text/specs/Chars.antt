@@ -74,13 +74,11 @@ first c t h (four a e) =
     (lead4 (240 + c / 262144) _ (omega arith) ∙ more 1 _ (c / 4096) _ _ (omega arith) ∙ more 0 (c / 4096) (c / 64) _ _ (omega arith)
     ∙ last (c / 64) c _ t (omega arith))
 
--- the characters of the bytes of characters
 pub chars-bytes : (cs : List ℕ) → Text cs → charsOf (bytesOf cs) ≡ cs
 unfolding charsOf bytesOf charsFrom
 chars-bytes [] t = refl
 chars-bytes (c ∷ cs) t = first c (bytesOf cs) (scalar-top c (t .0)) (size c) ∙ ap (λ l. c ∷ l) (chars-bytes cs (t .1))
 
--- so UTF-8 has its characters back
 pub bytes-chars : (bs : List ℕ) → Utf8 bs → Text (charsOf bs) × (bytesOf (charsOf bs) ≡ bs)
 unfolding Utf8
 bytes-chars bs u =

@@ -1,4 +1,4 @@
--- The increment of a text (increment_utf8 of the source): the last character that can be raised is, and what follows it is cut off.
+-- The increment of a text (increment_utf8 of the source): the last character that can be raised is raised, and what follows it is cut off.
 -- The rule for one character is a parameter of the theorems. Assumes nothing.
 use mathlib.Core.Path.{_≡_, refl, sym, _∙_, ap, subst}
 use mathlib.Core.Bool.{Bool, true, false, cond, not, _&&_, _||_, false≢true, and-eq-true-iff}
@@ -176,7 +176,7 @@ unfolding rise
 rise-back f [] c e = rw e
 rise-back f (x ∷ ks) c e = rw (rise-back f ks c e)
 
--- so is the increment
+-- so the increment too
 pub increment-here : (f : ℕ → Option ℕ) (ks : List ℕ) (c d : ℕ) → f c ≡ some d → increment f (ks ++ c ∷ []) ≡ some (ks ++ d ∷ [])
 increment-here f ks c d e = increment-rise f (ks ++ c ∷ []) ∙ rw (rise-here f ks c d e)
 
@@ -219,7 +219,7 @@ rise-front f (c ∷ cs) x e = go (f c) (rise f cs) refl (rise-front f cs) e
     go none none b ih e = absurd (Option·none-ne-some x e)
     go (some d) none b ih e = (c ∷ cs, ap (λ z. z .kept ++ (c ∷ cs)) (Option·some-injective _ _ e))
 
--- and the raised character a scalar value
+-- and the raised character is a scalar value
 pub rise-scalar : (f : ℕ → Option ℕ) → Raises f → (cs : List ℕ) (x : Raise) → rise f cs ≡ some x → Scalar (x .top)
 unfolding rise
 rise-scalar f r [] x e = absurd (Option·none-ne-some x e)

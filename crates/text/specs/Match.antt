@@ -79,7 +79,7 @@ matches (c ∷ p) false s h = go (eqb c percent) (eqb c underscore) (eqb c backs
     go false false true ih h = ih true s h
     go false false false ih h = then-is c (prefixOf false p) (restOf false p) (like p false) s (ih false) h
 
--- ---- bytes: the three marks stand in no longer character
+-- ---- bytes: a character of several bytes holds none of the three marks
 
 plain : (e : Bool) (b : ℕ) → 128 ≤ b → (endsAt e b ≡ false) × (opensAt e b ≡ false)
 plain true b h = (refl, refl)

@@ -10,6 +10,11 @@ use lib.Dec.{ltb}
 use borrow.Author.Tests.{lt-ltb, le-ltb, ltb-true, ltb-false}
 use Rattle.words.specs.Bytes.{below, below-first, below-next}
 
+-- P of every element
+abbrev pub Each : {A : Type 0} → (A → Type 0) → List A → Type 0
+Each P [] = Unit {0}
+Each P (x ∷ xs) = P x × Each P xs
+
 -- no surrogate, none above 10FFFF
 abbrev pub Scalar : ℕ → Type 0
 Scalar c = (c < 0xD800) ⊎ ((0xE000 ≤ c) × (c < 0x110000))
@@ -37,8 +42,7 @@ bytesOf (c ∷ cs) = encode c ++ bytesOf cs
 
 -- every code point is a scalar value
 abbrev pub Text : List ℕ → Type 0
-Text [] = Unit {0}
-Text (c ∷ cs) = Scalar c × Text cs
+Text cs = Each Scalar cs
 
 -- a byte string is UTF-8
 unfoldable pub Utf8 : List ℕ → Type 0
@@ -85,7 +89,7 @@ pub scalar-top : (c : ℕ) → Scalar c → c < 0x110000
 scalar-top c (inl h) = omega arith
 scalar-top c (inr h) = omega arith
 
--- ---- the bytes go as the code points
+-- ---- bytes are in the order of their code points
 
 -- the first digit decides, else what follows
 step : (m n k : ℕ) (xs ys : List ℕ) → m ≤ n → (m ≡ n → below xs ys ≡ true) → below ((k + m) ∷ xs) ((k + n) ∷ ys) ≡ true
@@ -127,7 +131,7 @@ less c d x y h k (four a e) (four b f) =
     low (c / 4096) (d / 4096) _ _ (omega arith) (high4 c d p) λ q.
     low (c / 64) (d / 64) _ _ (omega arith) (high3 c d q) λ r. low c d _ _ (omega arith) r λ s. absurd (omega arith))
 
--- the bytes go as the code points, whatever follows
+-- whatever follows
 pub encode-below : (c d : ℕ) (x y : List ℕ) → c < d → d < 0x110000 → below (encode c ++ x) (encode d ++ y) ≡ true
 encode-below c d x y h k = less c d x y h k (size c) (size d)
 
@@ -135,8 +139,7 @@ encode-below c d x y h k = less c d x y h k (size c) (size d)
 
 -- continuation bytes
 abbrev pub Conts : List ℕ → Type 0
-Conts [] = Unit {0}
-Conts (b ∷ bs) = ((128 ≤ b) × (b < 192)) × Conts bs
+Conts bs = Each (λ b. (128 ≤ b) × (b < 192)) bs
 
 -- one byte, the code point itself; or a leading byte of 192 and more, then continuation bytes
 pub data Shape (c : ℕ) : Type 0 where
@@ -152,7 +155,7 @@ shape c = go (size c)
     go (three a b e) = long (omega arith) _ _ e (omega arith) ((omega arith, omega arith), ((omega arith, omega arith), tt))
     go (four a e) = long (omega arith) _ _ e (omega arith) ((omega arith, omega arith), ((omega arith, omega arith), ((omega arith, omega arith), tt)))
 
--- only no characters have no bytes
+-- a text without bytes has no characters
 pub no-bytes : (p : List ℕ) → bytesOf p ≡ [] → p ≡ []
 unfolding bytesOf
 no-bytes [] e = refl

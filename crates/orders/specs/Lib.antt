@@ -1,0 +1,6 @@
+pub mod Order
+pub mod Forms
+pub mod Instances
+pub mod Likes
+pub mod Cases
+pub mod Values

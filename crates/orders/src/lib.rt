@@ -1,0 +1,1 @@
+// Total orders and the forms over them: definitions and theorems, no function.
