@@ -74,3 +74,13 @@ pub negated-to : (z : ℤ) → (z ≡ leastInteger → ⊥) → negated z ≡ To
 unfolding negated
 negated-to (pos n) h = refl
 negated-to (negsuc n) h = rw (ne-eqb n (2 ^ 63 - 1) (λ e. h (ap negsuc e)))
+
+-- where it is handled, it is minus
+pub negated-is : (z y : ℤ) → negated z ≡ To y → y ≡ negℤ z
+unfolding negated
+negated-is (pos n) y e = cc
+negated-is (negsuc n) y e = go (eqb n (2 ^ 63 - 1)) e
+  where
+    go : (b : Bool) → cond b Unhandled (To (negℤ (negsuc n))) ≡ To y → y ≡ negℤ (negsuc n)
+    go true e = cc
+    go false e = cc

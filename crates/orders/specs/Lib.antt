@@ -4,3 +4,4 @@ pub mod Instances
 pub mod Likes
 pub mod Cases
 pub mod Values
+pub mod ValueLaws

@@ -5,3 +5,5 @@ pub mod Encoding
 pub mod Worth
 pub mod Fitting
 pub mod Constants
+pub mod Turning
+pub mod FormsSound
