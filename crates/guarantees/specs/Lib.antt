@@ -1,1 +1,2 @@
 pub mod Guarantees
+pub mod GuaranteeLaws

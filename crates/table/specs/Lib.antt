@@ -2,3 +2,5 @@ pub mod Tables
 pub mod Comparisons
 pub mod Rewriting
 pub mod Encoding
+pub mod Measures
+pub mod EncodingLaws
