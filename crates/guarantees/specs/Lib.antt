@@ -1,2 +1,3 @@
 pub mod Guarantees
 pub mod Fitting
+pub mod GuaranteeLaws

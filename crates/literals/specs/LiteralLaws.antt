@@ -96,9 +96,13 @@ module _ (o : ℕ) (v : Value) (h : Plain v) (k : o < 2 ^ 24) where
 
 -- ---- a value in a word and a pool, and out again
 
-bit-back : (b : Bool) → eqb (bitOf b) 1 ≡ b
+pub bit-back : (b : Bool) → eqb (bitOf b) 1 ≡ b
 bit-back true = refl
 bit-back false = refl
+
+pub bit-below : (b : Bool) → bitOf b < 2
+bit-below true = lit< tt
+bit-below false = lit< tt
 
 range-back : (p bs q : List ℕ) → take (length bs) (drop (length p) (p ++ bs ++ q)) ≡ bs
 range-back p bs q = rw (append-assoc p bs q, drop-append-seam p (bs ++ q)) (take-append-seam bs q)

@@ -2,8 +2,9 @@
 use mathlib.Core.Path.{_≡_, refl}
 use mathlib.Core.Bool.{Bool, true, false}
 use mathlib.Core.List.{List, [], _∷_}
-use Prim.Native.Nat.{ℕ}
+use Prim.Native.Nat.{ℕ, _<_}
 use lib.ListN.{getD}
+use lib.Dec.{lit<}
 use Rattle.words.specs.declared.Order.{Order}
 use Rattle.words.specs.declared.Order.the-variants.{Less, Equal as Same, Greater}
 use Rattle.operators.specs.declared.Operator.{Operator}
@@ -39,6 +40,16 @@ operator-code Above = refl
 operator-code AtLeast = refl
 operator-code Distinct = refl
 operator-code NotDistinct = refl
+
+pub code-below : (o : Operator) → codeOf o < 8
+code-below Equal = lit< tt
+code-below NotEqual = lit< tt
+code-below Below = lit< tt
+code-below AtMost = lit< tt
+code-below Above = lit< tt
+code-below AtLeast = lit< tt
+code-below Distinct = lit< tt
+code-below NotDistinct = lit< tt
 
 -- the operator with its sides exchanged
 abbrev pub swapOf : Operator → Operator

@@ -2,3 +2,4 @@ pub mod TableReading
 pub mod TableChecking
 pub mod Cells
 pub mod Evaluating
+pub mod RoundTrip

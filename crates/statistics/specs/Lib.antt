@@ -1,1 +1,3 @@
 pub mod Statistics
+pub mod Pigeonhole
+pub mod ListLaws

@@ -7,3 +7,5 @@ pub mod Fitting
 pub mod Constants
 pub mod Turning
 pub mod FormsSound
+pub mod Measures
+pub mod EncodingLaws
