@@ -235,7 +235,7 @@ equals (some Greater) e = false-true e
 
 module _ (cells : Cells) (rows : List Row) (fit : FitCells cells rows) (r : Row) (i : In r rows) (c : Column) where
   -- blanks ≠ rows is false only where every value is blank
-  values-gone : worth cells (hasValues c) ≡ False → isNull (valueIn r c) ≡ false → ⊥
+  pub values-gone : worth cells (hasValues c) ≡ False → isNull (valueIn r c) ≡ false → ⊥
   unfolding worth
   values-gone e h =
       let q = same-count (blanksIn c rows) (length rows) (counted NotEqual (cells (Blanks c)) (cells Rows) _ _ (fit .blanks c) (fit .count) e) in
@@ -316,7 +316,7 @@ module _ (cells : Cells) (rows : List Row) (fit : FitCells cells rows) (r : Row)
   comparison-sound NotDistinct (truth b) e h = not-distinct-sound (truth b) refl e h
 
   -- LIKE's form
-  like-sound : (s p u : List ℕ) → valueIn r c ≡ text s → Utf8 s → Utf8 p → upperOf p ≡ some u
+  pub like-sound : (s p u : List ℕ) → valueIn r c ≡ text s → Utf8 s → Utf8 p → upperOf p ≡ some u
       → worth cells (boundedForm c (prefixOf false p) (some u)) ≡ False → likeText p s ≡ true → ⊥
   unfolding worth
   like-sound s p u q us up b e h =

@@ -9,3 +9,4 @@ pub mod Turning
 pub mod FormsSound
 pub mod Measures
 pub mod EncodingLaws
+pub mod Soundness
