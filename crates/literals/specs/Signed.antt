@@ -5,7 +5,10 @@ use Prim.Native.Nat.{ℕ, _-_, _^_, _≤_, _<_}
 use native.Mathlib.Omega.{arith}
 use lib.Dec.{ltb, eqb}
 use lib.IntN.{ℤ, pos, negsuc, negℤ}
+use lib.Signed.{ltZ}
 use borrow.Author.Tests.{lt-ltb, le-ltb, ltb-true, ltb-false, ne-eqb}
+use Rattle.words.specs.declared.Order.{Order}
+use Rattle.words.specs.declared.Order.the-variants.{Less, Equal, Greater}
 use Rattle.literals.specs.declared.Negated.{Negated}
 use Rattle.literals.specs.declared.Negated.the-variants.{To, Unhandled}
 
@@ -74,3 +77,19 @@ pub negated-to : (z : ℤ) → (z ≡ leastInteger → ⊥) → negated z ≡ To
 unfolding negated
 negated-to (pos n) h = refl
 negated-to (negsuc n) h = rw (ne-eqb n (2 ^ 63 - 1) (λ e. h (ap negsuc e)))
+
+-- how two integers compare
+unfoldable pub intOrder : ℤ → ℤ → Order
+intOrder a b = cond (ltZ a b) Less (cond (ltZ b a) Greater Equal)
+
+pub int-less : (a b : ℤ) → ltZ a b ≡ true → intOrder a b ≡ Less
+unfolding intOrder
+int-less a b h = rw h
+
+pub int-greater : (a b : ℤ) → ltZ a b ≡ false → ltZ b a ≡ true → intOrder a b ≡ Greater
+unfolding intOrder
+int-greater a b h k = rw (h, k)
+
+pub int-equal : (a b : ℤ) → ltZ a b ≡ false → ltZ b a ≡ false → intOrder a b ≡ Equal
+unfolding intOrder
+int-equal a b h k = rw (h, k)
