@@ -1,6 +1,5 @@
 -- Kleene's AND, OR and NOT by what they mean: unknown is either of false and true, and a result is known where it is the same whichever.
 -- Assumes nothing.
-use mathlib.Core.Path.{_≡_, refl}
 use mathlib.Core.Bool.{Bool, true, false, not, _&&_, _||_}
 use mathlib.Core.List.{List, [], _∷_, _++_}
 use Prim.Native.Nat.{ℕ}

@@ -3,15 +3,17 @@ use mathlib.Core.Path.{_≡_, refl, ap, _∙_}
 use mathlib.Core.Bool.{Bool, true, false}
 use mathlib.Core.List.{List, [], _∷_, _++_, append-assoc}
 use Prim.Native.Nat.{ℕ, _^_, _<_}
-use lib.ListN.{length, take, drop}
-use lib.Seq.{drop-append-seam, take-append-seam}
+use native.Mathlib.Omega.{arith}
+use lib.ListN.{length, take, drop, length-drop}
+use lib.Seq.{drop-append-seam, take-append-seam, length-take-le}
 use lib.Dec.{eqb, lit<}
 use Rattle.words.specs.Word.{wordAt, wordBytes}
 use Rattle.words.specs.WordLaws.{length-word, word-put}
 use Rattle.words.specs.Layout.{packed, Within}
 use Rattle.words.specs.LayoutLaws.{packed-within, field-packed}
 use Rattle.literals.specs.Signed.{signed, bitsOf, Fits64, signed-bits, bits-fit}
-use Rattle.literals.specs.Literals.{literalLayout, typeOf, lengthOf, zeroOf, offsetOf, nullType, integerType, textType, truthType, literalOf, Value, null, int, text, truth, valueOf, valueAt, valueBytes, valueWord, bitOf}
+use Rattle.literals.specs.Literals.{literalLayout, typeOf, lengthOf, zeroOf, offsetOf, nullType, integerType, textType, truthType, literalOf, Value, null, int, text, truth, valueOf, valueAt, valueBytes, valueWord, bitOf, literalWord, LiteralInside}
+use Rattle.literals.specs.declared.Literal.{Literal}
 use Rattle.literals.specs.declared.Literal.the-variants.{Null, Int, Text, Truth}
 
 -- ---- the literal of a word, by its type
@@ -129,3 +131,13 @@ value-at p (truth b) q h k =
     ap (valueOf pool) (literal-truth pool w (type-value (length p) (truth b) h k))
     ∙ ap (λ (i : ℕ). truth (eqb i 1)) (offset-value (length p) (truth b) h k)
     ∙ ap truth (bit-back b)
+
+-- ---- a literal's word is that of its value
+
+pub literal-word-value : (pool : List ℕ) (o : ℕ) (l : Literal) → LiteralInside pool l → literalWord o l ≡ valueWord o (valueOf pool l)
+literal-word-value pool o Null h = refl
+literal-word-value pool o (Int z) h = refl
+literal-word-value pool o (Text r) h =
+    let e : length (take (r .len) (drop (r .at) pool)) ≡ r .len = length-take-le (r .len) (drop (r .at) pool) (rw length-drop (omega arith)) in
+    rw e
+literal-word-value pool o (Truth b) h = refl

@@ -1,12 +1,13 @@
 -- Literal words, the literals that they stand for, and the values of literals over a pool. Assumes nothing.
 use mathlib.Core.Bool.{Bool, true, false, _&&_, _||_}
 use mathlib.Core.List.{List, [], _∷_}
-use Prim.Native.Nat.{ℕ, _+_}
+use Prim.Native.Nat.{ℕ, _+_, _^_, _<_}
 use lib.ListN.{length, getD}
 use lib.Dec.{eqb, leb, ltb}
 use lib.IntN.{ℤ}
 use Rattle.words.specs.Word.{wordAt, wordBytes, rangeOf}
 use Rattle.words.specs.Layout.{field, packed}
+use Rattle.words.specs.Pools.{Inside}
 use Rattle.literals.specs.Signed.{signed, bitsOf}
 use Rattle.literals.specs.declared.Literal.{Literal}
 use Rattle.literals.specs.declared.Literal.the-variants.{Null, Int, Text, Truth}
@@ -111,3 +112,26 @@ valueWord offset null = 0
 valueWord offset (int z) = packed literalLayout (integerType ∷ integerBytes ∷ 0 ∷ offset ∷ [])
 valueWord offset (text bs) = packed literalLayout (textType ∷ length bs ∷ 0 ∷ offset ∷ [])
 valueWord offset (truth b) = packed literalLayout (truthType ∷ 0 ∷ 0 ∷ bitOf b ∷ [])
+
+-- ---- literals as words
+
+-- the word of a literal whose bytes stand at an offset
+abbrev pub literalWord : ℕ → Literal → ℕ
+literalWord offset Null = 0
+literalWord offset (Int z) = packed literalLayout (integerType ∷ integerBytes ∷ 0 ∷ offset ∷ [])
+literalWord offset (Text r) = packed literalLayout (textType ∷ r .len ∷ 0 ∷ offset ∷ [])
+literalWord offset (Truth b) = packed literalLayout (truthType ∷ 0 ∷ 0 ∷ bitOf b ∷ [])
+
+-- a literal that a word can hold
+abbrev pub LiteralFits : Literal → Type 0
+LiteralFits Null = Unit {0}
+LiteralFits (Int z) = Unit {0}
+LiteralFits (Text r) = r .len < 2 ^ 14
+LiteralFits (Truth b) = Unit {0}
+
+-- a literal whose text the pool has
+abbrev pub LiteralInside : List ℕ → Literal → Type 0
+LiteralInside pool Null = Unit {0}
+LiteralInside pool (Int z) = Unit {0}
+LiteralInside pool (Text r) = Inside pool r
+LiteralInside pool (Truth b) = Unit {0}

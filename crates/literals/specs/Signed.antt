@@ -1,11 +1,14 @@
 -- Integers: two's complement in 64 bits, as exact integers; minus, which is exact. `negsuc k` is -(k + 1). Assumes nothing.
 use mathlib.Core.Path.{_≡_, refl, ap}
-use mathlib.Core.Bool.{Bool, true, false, cond}
+use mathlib.Core.Bool.{Bool, true, false, cond, not}
 use Prim.Native.Nat.{ℕ, _-_, _^_, _≤_, _<_}
 use native.Mathlib.Omega.{arith}
-use lib.Dec.{ltb, eqb}
+use lib.Dec.{leb, ltb, eqb}
 use lib.IntN.{ℤ, pos, negsuc, negℤ}
-use borrow.Author.Tests.{lt-ltb, le-ltb, ltb-true, ltb-false, ne-eqb}
+use lib.Signed.{ltZ, leZ}
+use borrow.Author.Tests.{lt-ltb, le-ltb, ltb-true, ltb-false, leb-true, leb-false, ne-eqb}
+use Rattle.words.specs.declared.Order.{Order}
+use Rattle.words.specs.declared.Order.the-variants.{Less, Equal, Greater}
 use Rattle.literals.specs.declared.Negated.{Negated}
 use Rattle.literals.specs.declared.Negated.the-variants.{To, Unhandled}
 
@@ -84,3 +87,33 @@ negated-is (negsuc n) y e = go (eqb n (2 ^ 63 - 1)) e
     go : (b : Bool) → cond b Unhandled (To (negℤ (negsuc n))) ≡ To y → y ≡ negℤ (negsuc n)
     go true e = cc
     go false e = cc
+
+ltb-leb : (m n : ℕ) → ltb m n ≡ not (leb n m)
+ltb-leb m n = go (leb n m) refl
+  where
+    go : (t : Bool) → leb n m ≡ t → ltb m n ≡ not t
+    go true e = le-ltb m n (leb-true n m e)
+    go false e = lt-ltb m n (leb-false n m e)
+
+-- how two integers compare
+unfoldable pub intOrder : ℤ → ℤ → Order
+intOrder a b = cond (ltZ a b) Less (cond (ltZ b a) Greater Equal)
+
+pub int-less : (a b : ℤ) → ltZ a b ≡ true → intOrder a b ≡ Less
+unfolding intOrder
+int-less a b h = rw h
+
+pub int-greater : (a b : ℤ) → ltZ a b ≡ false → ltZ b a ≡ true → intOrder a b ≡ Greater
+unfolding intOrder
+int-greater a b h k = rw (h, k)
+
+pub int-equal : (a b : ℤ) → ltZ a b ≡ false → ltZ b a ≡ false → intOrder a b ≡ Equal
+unfolding intOrder
+int-equal a b h k = rw (h, k)
+
+-- below is the other side of at most
+pub below-at-most : (a b : ℤ) → ltZ a b ≡ not (leZ b a)
+below-at-most (pos a) (pos b) = ltb-leb a b
+below-at-most (pos a) (negsuc b) = refl
+below-at-most (negsuc a) (pos b) = refl
+below-at-most (negsuc a) (negsuc b) = ltb-leb b a

@@ -1,4 +1,6 @@
 // The comparison operators: their codes, and each one's swap.
+ghost use mathlib.Core.Path.{_≡_};
+ghost use Rattle.operators.specs.Operators.{operatorOf, codeOf, swapOf};
 
 pub enum Operator {
     Equal,
@@ -15,4 +17,71 @@ pub enum Operator {
 pub enum OperatorRead {
     Known(Operator),
     Unknown,
+}
+
+impl Operator {
+    pub const EQUAL: u8 = 0;
+
+    pub const NOT_EQUAL: u8 = 1;
+
+    pub const BELOW: u8 = 2;
+
+    pub const AT_MOST: u8 = 3;
+
+    pub const ABOVE: u8 = 4;
+
+    pub const AT_LEAST: u8 = 5;
+
+    pub const DISTINCT: u8 = 6;
+
+    pub const NOT_DISTINCT: u8 = 7;
+
+    // The operator of a code.
+    pub fn of_code(n: u8) -> OperatorRead
+        ensures { λ r. ⌜ r ≡ operatorOf n ⌝ }
+    {
+        match n {
+            Operator::EQUAL => OperatorRead::Known(Operator::Equal),
+            Operator::NOT_EQUAL => OperatorRead::Known(Operator::NotEqual),
+            Operator::BELOW => OperatorRead::Known(Operator::Below),
+            Operator::AT_MOST => OperatorRead::Known(Operator::AtMost),
+            Operator::ABOVE => OperatorRead::Known(Operator::Above),
+            Operator::AT_LEAST => OperatorRead::Known(Operator::AtLeast),
+            Operator::DISTINCT => OperatorRead::Known(Operator::Distinct),
+            Operator::NOT_DISTINCT => OperatorRead::Known(Operator::NotDistinct),
+            _ => OperatorRead::Unknown,
+        }
+    }
+
+    // The operator's code.
+    pub fn code(self) -> u8
+        ensures { λ r. ⌜ r ≡ codeOf self ⌝ }
+    {
+        match self {
+            Operator::Equal => Operator::EQUAL,
+            Operator::NotEqual => Operator::NOT_EQUAL,
+            Operator::Below => Operator::BELOW,
+            Operator::AtMost => Operator::AT_MOST,
+            Operator::Above => Operator::ABOVE,
+            Operator::AtLeast => Operator::AT_LEAST,
+            Operator::Distinct => Operator::DISTINCT,
+            Operator::NotDistinct => Operator::NOT_DISTINCT,
+        }
+    }
+
+    // The operator with its sides exchanged.
+    pub fn swap(self) -> Operator
+        ensures { λ r. ⌜ r ≡ swapOf self ⌝ }
+    {
+        match self {
+            Operator::Equal => Operator::Equal,
+            Operator::NotEqual => Operator::NotEqual,
+            Operator::Below => Operator::Above,
+            Operator::AtMost => Operator::AtLeast,
+            Operator::Above => Operator::Below,
+            Operator::AtLeast => Operator::AtMost,
+            Operator::Distinct => Operator::Distinct,
+            Operator::NotDistinct => Operator::NotDistinct,
+        }
+    }
 }

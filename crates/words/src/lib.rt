@@ -64,6 +64,46 @@ pub fn word_at(s: &[u8], at: usize) -> u64
     )
 }
 
+// The byte k places behind index at, and 0 past the end.
+fn byte_or_zero(s: &[u8], at: usize, k: usize) -> u8
+    ensures { λ r. ⌜ r ≡ getD (now (s .entry)) (at + k) 0 ⌝ }
+{
+    if s.len() <= at {
+        return 0;
+    }
+    if k < s.len() - at { s[at + k] } else { 0 }
+}
+
+// The word whose bytes begin at index at, byte by byte, one past the end counted as 0.
+fn cut_word(s: &[u8], at: usize) -> u64
+    ensures { λ r. ⌜ r ≡ wordAt (now (s .entry)) at ⌝ }
+{
+    of_bytes(
+        byte_or_zero(s, at, 0),
+        byte_or_zero(s, at, 1),
+        byte_or_zero(s, at, 2),
+        byte_or_zero(s, at, 3),
+        byte_or_zero(s, at, 4),
+        byte_or_zero(s, at, 5),
+        byte_or_zero(s, at, 6),
+        byte_or_zero(s, at, 7),
+    )
+}
+
+// The word whose bytes begin at index at, wherever that is; a byte past the end counts as 0.
+pub fn padded_word(s: &[u8], at: usize) -> u64
+    ensures { λ r. ⌜ r ≡ wordAt (now (s .entry)) at ⌝ }
+{
+    if s.len() < 8 {
+        return cut_word(s, at);
+    }
+    if at <= s.len() - 8 {
+        word_at(s, at)
+    } else {
+        cut_word(s, at)
+    }
+}
+
 // Word i of a list of words, and 0 past its end.
 pub fn word_or_zero(s: &[u8], i: usize) -> u64
     ensures { λ r. ⌜ r ≡ getD (wordsOf (now (s .entry))) i 0 ⌝ }
