@@ -2,3 +2,4 @@ pub mod Nodes
 pub mod Predicates
 pub mod Measures
 pub mod Checking
+pub mod CheckingLaws

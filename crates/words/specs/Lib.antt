@@ -5,3 +5,4 @@ pub mod LayoutLaws
 pub mod Stores
 pub mod Pools
 pub mod Bytes
+pub mod Tests
