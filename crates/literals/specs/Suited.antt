@@ -20,9 +20,10 @@ use Rattle.literals.specs.declared.Literal.the-variants.{Null, Int, Text
 abbrev pub Suited : List ℕ → ℕ → ℕ → Literal → Type 0
 Suited pool type w Null = typeOf w ≡ nullType
 Suited pool type w (Int z) =
-    (type ≡ integerType) × (lengthOf w ≡ integerBytes) × Inside pool (record { at = offsetOf w; len = lengthOf w }) × (z ≡ signed (wordAt pool (offsetOf w)))
-Suited pool type w (Text r) = (type ≡ textType) × Inside pool r × (r ≡ record { at = offsetOf w; len = lengthOf w })
-Suited pool type w (Truth b) = (type ≡ truthType) × (lengthOf w ≡ 0) × (offsetOf w ≤ 1)
+    (typeOf w ≡ integerType) × (type ≡ integerType) × (lengthOf w ≡ integerBytes) × Inside pool (record { at = offsetOf w; len = lengthOf w })
+    × (z ≡ signed (wordAt pool (offsetOf w)))
+Suited pool type w (Text r) = (typeOf w ≡ textType) × (type ≡ textType) × Inside pool r × (r ≡ record { at = offsetOf w; len = lengthOf w })
+Suited pool type w (Truth b) = (typeOf w ≡ truthType) × (type ≡ truthType) × (lengthOf w ≡ 0) × (offsetOf w ≤ 1)
 
 pub suited : (pool : List ℕ) (type w : ℕ) → suits pool type w ≡ true → Suited pool type w (literalOf pool w)
 unfolding suits
@@ -36,14 +37,14 @@ suited pool type w e = go (typeOf w) refl e
     go (suc zero) k e =
         let a = and-both (eqb type integerType) (eqb (lengthOf w) integerBytes && inside pool w) e in
         let b = and-both (eqb (lengthOf w) integerBytes) (inside pool w) (a .1) in
-        rw (literal-int pool w k) (eqb-true _ _ (a .0), eqb-true _ _ (b .0), leb-true _ _ (b .1), refl)
+        rw (literal-int pool w k) (k, eqb-true _ _ (a .0), eqb-true _ _ (b .0), leb-true _ _ (b .1), refl)
     go (suc (suc zero)) k e =
         let a = and-both (eqb type textType) (inside pool w) e in
-        rw (literal-text pool w k) (eqb-true _ _ (a .0), leb-true _ _ (a .1), refl)
+        rw (literal-text pool w k) (k, eqb-true _ _ (a .0), leb-true _ _ (a .1), refl)
     go (suc (suc (suc zero))) k e =
         let a = and-both (eqb type truthType) (eqb (lengthOf w) 0 && leb (offsetOf w) 1) e in
         let b = and-both (eqb (lengthOf w) 0) (leb (offsetOf w) 1) (a .1) in
-        rw (literal-truth pool w k) (eqb-true _ _ (a .0), eqb-true _ _ (b .0), leb-true _ _ (b .1))
+        rw (literal-truth pool w k) (k, eqb-true _ _ (a .0), eqb-true _ _ (b .0), leb-true _ _ (b .1))
     go (suc (suc (suc (suc k)))) e f = absurd (false≢true f)
 
 -- a null whose unused fields are zero has no length

@@ -3,3 +3,4 @@ pub mod Predicates
 pub mod Measures
 pub mod Checking
 pub mod CheckingLaws
+pub mod Accepted
