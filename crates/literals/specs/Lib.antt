@@ -1,3 +1,4 @@
 pub mod Signed
 pub mod Literals
 pub mod LiteralLaws
+pub mod Suited

@@ -45,8 +45,9 @@ pub bits-fit : (z : ℤ) → Fits64 z → bitsOf z < 2 ^ 64
 bits-fit (pos n) h = omega arith
 bits-fit (negsuc n) h = omega arith
 
-pub signed-fits : (n : ℕ) → n < 2 ^ 64 → Fits64 (signed n)
-signed-fits n h = go (ltb n (2 ^ 63)) refl
+-- whatever the number: one of 2 ^ 64 or more stands for -1
+pub signed-fits : (n : ℕ) → Fits64 (signed n)
+signed-fits n = go (ltb n (2 ^ 63)) refl
   where
     go : (t : Bool) → ltb n (2 ^ 63) ≡ t → Fits64 (signed n)
     go true e = let l = ltb-true n (2 ^ 63) e in rw (signed-low n l) l

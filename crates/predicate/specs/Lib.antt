@@ -4,3 +4,5 @@ pub mod Measures
 pub mod Checking
 pub mod Meaning
 pub mod Rows
+pub mod CheckingLaws
+pub mod Accepted

@@ -6,3 +6,4 @@ pub mod Stores
 pub mod Pools
 pub mod Bytes
 pub mod Arms
+pub mod Tests
