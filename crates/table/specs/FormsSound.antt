@@ -324,7 +324,7 @@ module _ (cells : Cells) (rows : List Row) (fit : FitCells cells rows) (r : Row)
       let t = high textual s (cells (Greatest c)) (subst (λ x. Bounds x (cells (Greatest c))) q (fit .greatest c r i)) in
       ⊎-elim (λ x. values-gone x (rw q))
       (λ x.
-        like-form-false p s (l .bound) (t .bound) u up us (l .beside) (t .beside) b
-        (either-false _ _ (⊎-elim (λ y. inl (l .told AtMost u y)) (λ y. inr (t .told-first AtMost (prefixOf false p) y)) (and-false _ _ x)))
-        h)
+      like-form-false p s (l .bound) (t .bound) u up us (l .beside) (t .beside) b
+      (either-false _ _ (⊎-elim (λ y. inl (l .told AtMost u y)) (λ y. inr (t .told-first AtMost (prefixOf false p) y)) (and-false _ _ x)))
+      h)
       (and-false _ _ e)

@@ -156,21 +156,26 @@ module _ (cells : Cells) (rows : List Row) (fit : FitCells cells rows) (r : Row)
   column-sound : (c : Column) → Refutes (kleeneOr (truthIn (cells (Least c))) (truthIn (cells (Greatest c)))) (truthIn (valueIn r c))
   unfolding Refutes
   column-sound c e h =
-      crossed (valueIn r c) (cells (Greatest c)) (is-true _ h) (is-false _ (or-false _ _ e .1)) (fit .greatest c r i)
+      let a = truthIn (cells (Least c)) in
+      let b = truthIn (cells (Greatest c)) in
+      crossed (valueIn r c) (cells (Greatest c)) (is-true (valueIn r c) h) (is-false (cells (Greatest c)) (or-false a b e .1)) (fit .greatest c r i)
 
   not-column-sound : (c : Column)
       → Refutes (kleeneNot (kleeneAnd (truthIn (cells (Least c))) (truthIn (cells (Greatest c))))) (kleeneNot (truthIn (valueIn r c)))
   unfolding Refutes
   not-column-sound c e h =
-      crossed (cells (Least c)) (valueIn r c) (is-true _ (and-true _ _ (not-false _ e) .0)) (is-false _ (not-true _ h)) (fit .least c r i)
+      let a = truthIn (cells (Least c)) in
+      let b = truthIn (cells (Greatest c)) in
+      crossed (cells (Least c)) (valueIn r c) (is-true (cells (Least c)) (and-true a b (not-false (kleeneAnd a b) e) .0))
+      (is-false (valueIn r c) (not-true (truthIn (valueIn r c)) h)) (fit .least c r i)
 
   null-sound : (c : Column) → Refutes (worth cells (hasBlanks c)) (truthOf (Values.isNull (valueIn r c)))
   unfolding Refutes
-  null-sound c e h = blanks-gone cells rows fit r i c e (truth-true _ h)
+  null-sound c e h = blanks-gone cells rows fit r i c e (truth-true (Values.isNull (valueIn r c)) h)
 
   not-null-sound : (c : Column) → Refutes (worth cells (hasValues c)) (kleeneNot (truthOf (Values.isNull (valueIn r c))))
   unfolding Refutes
-  not-null-sound c e h = values-gone cells rows fit r i c e (truth-false _ (not-true _ h))
+  not-null-sound c e h = values-gone cells rows fit r i c e (truth-false (Values.isNull (valueIn r c)) (not-true (truthOf (Values.isNull (valueIn r c))) h))
 
   turned-sound : (c : Column) (t : Turned) (x : Truth) → ((p : Operator) (l : Value) → t ≡ asks p l → x ≡ True → compared p (valueIn r c) l ≡ True)
       → Refutes (worth cells (turnedForm c t)) x
