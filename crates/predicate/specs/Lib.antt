@@ -4,3 +4,4 @@ pub mod Measures
 pub mod Checking
 pub mod CheckingLaws
 pub mod Accepted
+pub mod Refusals
