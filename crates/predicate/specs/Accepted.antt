@@ -1,7 +1,7 @@
 -- What follows when checking passes: the predicate that the words stand for fits the schema, and its measures are what checking
 -- has counted, within the limits. Assumes nothing.
 use mathlib.Core.Path.{_≡_, refl, sym, ap, _∙_}
-use mathlib.Core.Bool.{Bool, true, false, not as negation, _||_}
+use mathlib.Core.Bool.{Bool, true, false, not as negation}
 use mathlib.Core.List.{List, [], _∷_}
 use Prim.Native.Nat.{ℕ, zero, suc, _+_, _*_, _≤_, _<_}
 use native.Mathlib.Omega.{arith}
@@ -15,7 +15,8 @@ use Rattle.words.specs.Pools.{Inside}
 use Rattle.words.specs.Tests.{or-other}
 use Rattle.words.specs.declared.Range.{Range}
 use Rattle.literals.specs.Signed.{Fits64, signed-fits}
-use Rattle.literals.specs.Literals.{Value, null, int, text, truth, valueOf, valueAt, valueBytes, literalOf, typeOf, lengthOf, offsetOf, plain, suits, integerType, textType, truthType}
+use Rattle.literals.specs.Literals.{Value, null, int, text, truth, valueOf, valueAt, valueBytes, literalOf, typeOf, lengthOf, plain, suits, integerType, textType, truthType}
+use Rattle.literals.specs.LiteralLaws.{Plain}
 use Rattle.literals.specs.Suited.{Suited, suited, plain-null}
 use Rattle.literals.specs.declared.Literal.{Literal}
 use Rattle.literals.specs.declared.Literal.the-variants.{Null, Int, Text, Truth}
@@ -24,10 +25,10 @@ use Rattle.text.specs.Machine.{isUtf8}
 use Rattle.text.specs.Valid.{utf8-iff}
 use Rattle.kleene.specs.declared.Joining.{Joining}
 use Rattle.predicate.specs.Nodes.{countOf}
-use Rattle.predicate.specs.Predicates.{Predicate, constant, join, not, column, isNull, isNotNull, comparison, list, like, Read, valuesAt, nodeAt, nodePredicate, thenNot, pairOf, predicateAt}
+use Rattle.predicate.specs.Predicates.{Predicate, constant, join, not, column, isNull, isNotNull, comparison, list, like, Read, valuesAt, nodeAt, nodePredicate, thenNot, pairOf, predicateAt, length-values}
 use Rattle.predicate.specs.Measures.{width, nodes, leaves, depth, listed, valuesBytes, literalBytes}
-use Rattle.predicate.specs.Checking.{typeIn, patterned, afterNode, afterLiteral, wordHere, checkLiteral, checkLiterals, checkBehind, checkFrom, atStart, predicateFault}
-use Rattle.predicate.specs.CheckingLaws.{Flippable, Columned, Stands, stands, type-in-schema, LiteralSays, NodeSays, literal-passed, passed-zero, passed-node, then-says, fault-none}
+use Rattle.predicate.specs.Checking.{typeIn, patterned, afterNode, checkLiteral, checkLiterals, checkBehind, checkFrom, atStart, predicateFault}
+use Rattle.predicate.specs.CheckingLaws.{Flippable, Columned, Stands, stands, type-in-schema, NodeSays, literal-passed, zero-passed, node-passed, then-says, fault-none}
 use Rattle.predicate.specs.declared.Column.{Column}
 use Rattle.predicate.specs.declared.Node.{Node}
 use Rattle.predicate.specs.declared.Node.the-variants.{Constant, Join, Not, TruthColumn, IsNull, IsNotNull, Comparison, List as InList, Like}
@@ -47,6 +48,13 @@ LiteralOf type (truth b) = type ≡ truthType
 abbrev pub LiteralsOf : ℕ → List Value → Type 0
 LiteralsOf type [] = Unit {0}
 LiteralsOf type (v ∷ vs) = LiteralOf type v × LiteralsOf type vs
+
+-- and one that a word can hold
+pub literal-plain : (type : ℕ) (v : Value) → LiteralOf type v → Plain v
+literal-plain type null h = tt
+literal-plain type (int z) h = h .1
+literal-plain type (text bs) h = omega arith
+literal-plain type (truth b) h = tt
 
 -- a pattern of LIKE
 abbrev pub Pattern : Value → Type 0
@@ -102,7 +110,7 @@ leaves-nodes (comparison o c n b v) = omega arith
 leaves-nodes (list b c n vs) = omega arith
 leaves-nodes (like b c v) = omega arith
 
--- ---- one literal
+-- ---- literals
 
 range-length : (pool : List ℕ) (r : Range) → Inside pool r → length (rangeOf pool r) ≡ r .len
 range-length pool r h = simp (length-take, length-drop) (omega arith)
@@ -122,13 +130,12 @@ module _ (pool : List ℕ) (type w : ℕ) (p : plain w ≡ true) (small : length
   suited-pattern k u Null h = tt
   suited-pattern k u (Int z) h = absurd (omega arith)
   suited-pattern k u (Text r) h =
-      let e : isUtf8 (rangeOf pool r) ≡ true =
-      rw (h .3) (or-other (negation (eqb (typeOf w) textType)) (isUtf8 (rangeOf pool (record { at = offsetOf w; len = lengthOf w }))) u (rw (eq-eqb (typeOf w) textType (h .0))))
-      in
+      let other : negation (eqb (typeOf w) textType) ≡ false = rw (eq-eqb (typeOf w) textType (h .0)) in
+      let e : isUtf8 (rangeOf pool r) ≡ true = rw (h .3) (or-other (negation (eqb (typeOf w) textType)) _ u other) in
       (utf8-iff (rangeOf pool r) .0 e, suited-value (Text r) h .0 .1)
   suited-pattern k u (Truth b) h = absurd (omega arith)
 
--- values stand between two places, as literals of this type
+-- values have passed as literals for a column of this type; checking stood at s and stands at t
 pub record Literals (ws : List ℕ) (type : ℕ) (s t : Progress) (vs : List Value) : Type 0 where
   pub fine : LiteralsOf type vs
   pub place : t .place ≡ s .place + length vs
@@ -156,9 +163,45 @@ one-more x y =
       bytesWithin = λ h. y .bytesWithin (x .bytesWithin h);
     }
 
+module _ (schema pool ws : List ℕ) where
+  pub accepted-literal : (pattern : Bool) (c : Column) (s t : Progress) → checkLiteral schema pool ws pattern c s ≡ Passed t
+      → Literals ws (typeIn schema (c .0)) s t (valueAt pool (getD ws (s .place) 0) ∷ [])
+  accepted-literal pattern c s t e =
+      let w : ℕ = getD ws (s .place) 0 in
+      let k : ℕ = typeIn schema (c .0) in
+      let a = literal-passed schema pool ws pattern c s t e in
+      let q = a .1 in
+      let v = suited-value pool k w (q .plain) (q .small) (literalOf pool w) (suited pool k w (q .suits)) in
+      rw (← a .2)
+      (record {
+        fine = (v .0, tt);
+        place = refl;
+        inside = λ h. omega (arith, a .0);
+        nodes = refl;
+        listed = refl;
+        bytes = omega (arith, v .1);
+        bytesWithin = λ h. q .room;
+      })
+
+  pub accepted-pattern : (c : Column) (s t : Progress) → checkLiteral schema pool ws true c s ≡ Passed t → typeIn schema (c .0) ≡ textType
+      → Pattern (valueAt pool (getD ws (s .place) 0))
+  accepted-pattern c s t e k =
+      let w : ℕ = getD ws (s .place) 0 in
+      let q = literal-passed schema pool ws true c s t e .1 in
+      suited-pattern pool (typeIn schema (c .0)) w (q .plain) (q .small) k (q .pattern) (literalOf pool w) (suited pool (typeIn schema (c .0)) w (q .suits))
+
+  pub accepted-literals : (n : ℕ) (c : Column) (s t : Progress) → checkLiterals schema pool ws n c s ≡ Passed t
+      → Literals ws (typeIn schema (c .0)) s t (valuesAt pool ws n (s .place))
+  unfolding checkLiterals valuesAt
+  accepted-literals zero c s t e = no-literals ws (typeIn schema (c .0)) s t (cc e)
+  accepted-literals (suc n) c s t e =
+      let a = then-says (checkLiterals schema pool ws n c) (checkLiteral schema pool ws false c s) t e in
+      let x = accepted-literal false c s (a .0) (a .1) in
+      one-more x (rw (x .place) at (accepted-literals n c (a .0) t (a .2)))
+
 -- ---- predicates
 
--- a predicate r, read at the place of s, has passed to t, with a depth left
+-- the predicate that is read as r at the place of s has passed, with a depth d left; checking stands at t
 pub record Accepted (schema ws : List ℕ) (d : ℕ) (s t : Progress) (r : Read) : Type 0 where
   pub fine : Fine schema (r .predicate)
   pub next : r .next ≡ t .place
@@ -230,50 +273,7 @@ module _ {schema pool ws : List ℕ} {d : ℕ} {s t : Progress} (h : NodeSays sc
       }
 
 module _ (schema pool ws : List ℕ) where
-  pub accepted-literal : (pattern : Bool) (c : Column) (s t : Progress) → checkLiteral schema pool ws pattern c s ≡ Passed t
-      → Literals ws (typeIn schema (c .0)) s t (valueAt pool (getD ws (s .place) 0) ∷ [])
-  accepted-literal pattern c s t e =
-      let w : ℕ = getD ws (s .place) 0 in
-      let k : ℕ = typeIn schema (c .0) in
-      let a = literal-passed schema pool ws pattern c s t e in
-      let q = a .1 in
-      let v = suited-value pool k w (q .plain) (q .small) (literalOf pool w) (suited pool k w (q .suits)) in
-      rw (← a .2)
-      (record {
-        fine = (v .0, tt);
-        place = refl;
-        inside = λ h. omega (arith, a .0);
-        nodes = refl;
-        listed = refl;
-        bytes = omega (arith, v .1);
-        bytesWithin = λ h. q .room;
-      })
-
-  pub accepted-pattern : (c : Column) (s t : Progress) → checkLiteral schema pool ws true c s ≡ Passed t → typeIn schema (c .0) ≡ textType
-      → Pattern (valueAt pool (getD ws (s .place) 0))
-  accepted-pattern c s t e k =
-      let w : ℕ = getD ws (s .place) 0 in
-      let q = literal-passed schema pool ws true c s t e .1 in
-      suited-pattern pool (typeIn schema (c .0)) w (q .plain) (q .small) k (q .pattern) (literalOf pool w) (suited pool (typeIn schema (c .0)) w (q .suits))
-
-  -- ---- the literals of a list
-
-  length-values : (n at : ℕ) → length (valuesAt pool ws n at) ≡ n
-  unfolding valuesAt
-  length-values zero at = refl
-  length-values (suc n) at = ap suc (length-values n (at + 1))
-
-  pub accepted-literals : (n : ℕ) (c : Column) (s t : Progress) → checkLiterals schema pool ws n c s ≡ Passed t
-      → Literals ws (typeIn schema (c .0)) s t (valuesAt pool ws n (s .place))
-  unfolding checkLiterals valuesAt
-  accepted-literals zero c s t e = no-literals ws (typeIn schema (c .0)) s t (cc e)
-  accepted-literals (suc n) c s t e =
-      let a = then-says (checkLiterals schema pool ws n c) (checkLiteral schema pool ws false c s) t e in
-      let x = accepted-literal false c s (a .0) (a .1) in
-      one-more x (rw (x .place) at (accepted-literals n c (a .0) t (a .2)))
-
-  -- ---- a node and what stands behind it
-
+  -- a node, its children known
   module _ (d : ℕ) (s t : Progress) (h : NodeSays schema pool ws (suc d) s)
       (child : (a b : Progress) → checkFrom schema pool ws d a ≡ Passed b → Accepted schema ws d a b (predicateAt pool ws d (a .place))) where
     abbrev w : ℕ
@@ -299,27 +299,25 @@ module _ (schema pool ws : List ℕ) where
     accepted-node (IsNull x) k c e = bare (refl, refl, refl, sym k, refl) c e
     accepted-node (IsNotNull x) k c e = bare (refl, refl, refl, sym k, refl) c e
     accepted-node (Comparison o x n b l) k c e =
-        let v = accepted-literal false x on t e in
+        let v = accepted-literal schema pool ws false x on t e in
         rw (k .1) (accepted-leaf h v (refl, refl, refl, sym (k .0), omega arith) (omega arith) (c, v .fine .0))
     accepted-node (InList b x n m) k c e =
-        let v = accepted-literals m x on t e in
-        let l = length-values m (s .place + 1) in
+        let v = accepted-literals schema pool ws m x on t e in
+        let l = length-values pool ws m (s .place + 1) in
         accepted-leaf h v (refl, refl, refl, l ∙ sym k, refl) (omega arith) (c, v .fine)
     accepted-node (Like b x l) k c e =
-        let v = accepted-literal true x on t e in
-        rw (k .1) (accepted-leaf h v (refl, refl, refl, sym (k .0), omega arith) (omega arith) (c, accepted-pattern x on t e c))
-
-  -- ---- what follows when checking passes
+        let v = accepted-literal schema pool ws true x on t e in
+        rw (k .1) (accepted-leaf h v (refl, refl, refl, sym (k .0), omega arith) (omega arith) (c, accepted-pattern schema pool ws x on t e c))
 
   pub accepted : (d : ℕ) (s t : Progress) → checkFrom schema pool ws d s ≡ Passed t → Accepted schema ws d s t (predicateAt pool ws d (s .place))
   unfolding predicateAt
-  accepted zero s t e = absurd (passed-zero schema pool ws s t e)
+  accepted zero s t e = absurd (zero-passed schema pool ws s t e)
   accepted (suc d) s t e =
-      let a = passed-node schema pool ws d s t e in
+      let a = node-passed schema pool ws d s t e in
       accepted-node d s t (a .0) (accepted d) (nodeAt pool ws (s .place))
       (stands pool (getD ws (s .place) 0) (getD ws (s .place + 1) 0) (a .0 .shaped)) (a .0 .column) (a .1)
 
--- a whole predicate that has no fault
+-- a predicate whose words are whole and have no fault
 pub record Whole (schema ws : List ℕ) (p : Predicate) : Type 0 where
   pub fine : Fine schema p
   pub columns : ColumnsBelow (length schema) p

@@ -1,12 +1,12 @@
 -- Laws of checking: each of its steps in the code's terms, and what a word with no fault says. Assumes nothing.
 use mathlib.Core.Path.{_≡_, refl, sym, _∙_}
 use mathlib.Core.Bool.{Bool, true, false, cond, not, _&&_, _||_}
-use mathlib.Core.List.{List, [], _∷_}
+use mathlib.Core.List.{List}
 use mathlib.Core.Logic.{_⊎_, inl, inr}
 use Prim.Native.Nat.{ℕ, zero, suc, _+_, _-_, _≤_, _<_}
 use native.Mathlib.Numerals.{sub-one}
 use native.Mathlib.Omega.{arith}
-use lib.ListN.{length, getD, List·getD-eq-default}
+use lib.ListN.{length, List·getD-eq-default}
 use lib.Dec.{eqb, leb, ltb, lit≤}
 use borrow.Author.Tests.{ltb-true, ltb-false, leb-true, leb-false, eqb-true, eqb-false, not-true, le-leb, lt-leb, eq-eqb, ne-eqb}
 use Rattle.limits.specs.Limits.{maxNodes, maxListLiterals, maxLiteralBytes, maxAllLiteralBytes, maxDepth, malformed, overLimit, misfit}
@@ -61,6 +61,32 @@ no-fault true true true e = (refl, refl, refl)
 no-fault true true false e = absurd (omega arith)
 no-fault true false c e = absurd (omega arith)
 no-fault false b c e = absurd (omega arith)
+
+-- ---- faults are none, 4, 5 or 6
+
+abbrev pub Fault : ℕ → Type 0
+Fault n = (n ≡ 0) ⊎ ((malformed ≤ n) × (n ≤ misfit))
+
+-- an answer that is a refusal is one of them
+abbrev pub Answers : Checked → Type 0
+Answers (Refused n) = (malformed ≤ n) × (n ≤ misfit)
+Answers (Passed s) = Unit {0}
+
+tests-fault : (gone formed limited fitting : Bool) → Fault (cond gone malformed (cond formed (cond limited (cond fitting 0 misfit) overLimit) malformed))
+tests-fault true a b c = inr (lit≤ tt, lit≤ tt)
+tests-fault false false b c = inr (lit≤ tt, lit≤ tt)
+tests-fault false true false c = inr (lit≤ tt, lit≤ tt)
+tests-fault false true true false = inr (lit≤ tt, lit≤ tt)
+tests-fault false true true true = inl refl
+
+passes-answers : (n : ℕ) (x : Checked) → Fault n → Answers x → Answers (passes n x)
+passes-answers zero x h k = k
+passes-answers (suc n) x (inl e) k = absurd (omega arith)
+passes-answers (suc n) x (inr h) k = h
+
+then-answers : (f : Progress → Checked) (x : Checked) → ((s : Progress) → Answers (f s)) → Answers x → Answers (thenOn f x)
+then-answers f (Refused n) h k = k
+then-answers f (Passed s) h k = h s
 
 -- ---- a node's word
 
@@ -240,16 +266,16 @@ module _ (schema pool ws : List ℕ) where
       let p = present (missing ws s) f (a .0) in
       (leb-false _ _ (p .0), literal-says pool pattern (typeIn schema (c .0)) s w (p .1), cc (a .1))
 
-  -- what a predicate that passed says: a depth is left
-  pub passed-zero : (s t : Progress) → checkFrom schema pool ws zero s ≡ Passed t → ⊥
+  -- what a predicate that passed says: some depth was left, its word has no fault, and what stands behind it passed
+  pub zero-passed : (s t : Progress) → checkFrom schema pool ws zero s ≡ Passed t → ⊥
   unfolding checkFrom
-  passed-zero s t e = node-says 0 s (passes-says (nodeFault schema pool ws 0 s) (Refused overLimit) t e .0) .deep refl
+  zero-passed s t e = node-says 0 s (passes-says (nodeFault schema pool ws 0 s) (Refused overLimit) t e .0) .deep refl
 
-  pub passed-node : (d : ℕ) (s t : Progress) → checkFrom schema pool ws (suc d) s ≡ Passed t
+  pub node-passed : (d : ℕ) (s t : Progress) → checkFrom schema pool ws (suc d) s ≡ Passed t
       → NodeSays (suc d) s
       × (checkBehind schema pool ws (checkFrom schema pool ws d) (afterNode s (wordHere schema pool ws s)) (nodeAt pool ws (s .place)) ≡ Passed t)
   unfolding checkFrom
-  passed-node d s t e =
+  node-passed d s t e =
       let b = checkBehind schema pool ws (checkFrom schema pool ws d) (afterNode s (wordHere schema pool ws s)) (nodeAt pool ws (s .place)) in
       let a = passes-says (nodeFault schema pool ws (suc d) s) b t e in
       (node-says (suc d) s (a .0), a .1)
@@ -302,46 +328,8 @@ module _ (schema pool ws : List ℕ) where
   check-node zero s e n f = absurd (node-says 0 s e .deep refl)
   check-node (suc d) s e n f = rw (e, sub-one, f)
 
-  pub fault-refused : (n : ℕ) → checkFrom schema pool ws maxDepth (atStart schema pool ws) ≡ Refused n → predicateFault schema pool ws ≡ n
-  unfolding predicateFault
-  fault-refused n e = rw e
+  -- ---- answers
 
-  pub fault-passed : (t : Progress) → checkFrom schema pool ws maxDepth (atStart schema pool ws) ≡ Passed t → t .place ≡ length ws → predicateFault schema pool ws ≡ 0
-  unfolding predicateFault
-  fault-passed t e h = rw (e, eq-eqb (t .place) (length ws) h)
-
-  pub fault-left : (t : Progress) → checkFrom schema pool ws maxDepth (atStart schema pool ws) ≡ Passed t → (t .place ≡ length ws → ⊥)
-      → predicateFault schema pool ws ≡ malformed
-  unfolding predicateFault
-  fault-left t e h = rw (e, ne-eqb (t .place) (length ws) h)
-
--- ---- faults are none, 4, 5 or 6
-
-abbrev pub Fault : ℕ → Type 0
-Fault n = (n ≡ 0) ⊎ ((malformed ≤ n) × (n ≤ misfit))
-
--- an answer that is a refusal is one of them
-abbrev pub Answers : Checked → Type 0
-Answers (Refused n) = (malformed ≤ n) × (n ≤ misfit)
-Answers (Passed s) = Unit {0}
-
-tests-fault : (gone formed limited fitting : Bool) → Fault (cond gone malformed (cond formed (cond limited (cond fitting 0 misfit) overLimit) malformed))
-tests-fault true a b c = inr (lit≤ tt, lit≤ tt)
-tests-fault false false b c = inr (lit≤ tt, lit≤ tt)
-tests-fault false true false c = inr (lit≤ tt, lit≤ tt)
-tests-fault false true true false = inr (lit≤ tt, lit≤ tt)
-tests-fault false true true true = inl refl
-
-passes-answers : (n : ℕ) (x : Checked) → Fault n → Answers x → Answers (passes n x)
-passes-answers zero x h k = k
-passes-answers (suc n) x (inl e) k = absurd (omega arith)
-passes-answers (suc n) x (inr h) k = h
-
-then-answers : (f : Progress → Checked) (x : Checked) → ((s : Progress) → Answers (f s)) → Answers x → Answers (thenOn f x)
-then-answers f (Refused n) h k = k
-then-answers f (Passed s) h k = h s
-
-module _ (schema pool ws : List ℕ) where
   pub node-fault : (d : ℕ) (s : Progress) → Fault (nodeFault schema pool ws d s)
   unfolding nodeFault
   node-fault d s =
@@ -382,17 +370,47 @@ module _ (schema pool ws : List ℕ) where
       let n : Node = nodeAt pool ws (s .place) in
       passes-answers (nodeFault schema pool ws (suc d) s) (checkBehind schema pool ws f a n) (node-fault (suc d) s) (behind-answers f (check-answers d) a n)
 
+  -- ---- the whole
+
+  abbrev pub fromStart : Checked
+  fromStart = checkFrom schema pool ws maxDepth (atStart schema pool ws)
+
+  pub fault-refused : (n : ℕ) → fromStart ≡ Refused n → predicateFault schema pool ws ≡ n
+  unfolding predicateFault
+  fault-refused n e = rw e
+
+  pub fault-passed : (t : Progress) → fromStart ≡ Passed t → t .place ≡ length ws → predicateFault schema pool ws ≡ 0
+  unfolding predicateFault
+  fault-passed t e h = rw (e, eq-eqb (t .place) (length ws) h)
+
+  pub fault-left : (t : Progress) → fromStart ≡ Passed t → (t .place ≡ length ws → ⊥)
+      → predicateFault schema pool ws ≡ malformed
+  unfolding predicateFault
+  fault-left t e h = rw (e, ne-eqb (t .place) (length ws) h)
+
+  pub predicate-fault : Fault (predicateFault schema pool ws)
+  unfolding predicateFault
+  predicate-fault = go fromStart (check-answers maxDepth (atStart schema pool ws))
+    where
+      left : (b : Bool) → Fault (cond b 0 malformed)
+      left true = inl refl
+      left false = inr (lit≤ tt, lit≤ tt)
+
+      go : (x : Checked) → Answers x → Fault (finish schema pool ws x)
+      go (Refused n) h = inr h
+      go (Passed t) h = left (eqb (t .place) (length ws))
+
   -- no fault: it passed, with no word left over
   pub fault-none : predicateFault schema pool ws ≡ 0
-      → (t : Progress) × (checkFrom schema pool ws maxDepth (atStart schema pool ws) ≡ Passed t) × (t .place ≡ length ws)
+      → (t : Progress) × (fromStart ≡ Passed t) × (t .place ≡ length ws)
   unfolding predicateFault
-  fault-none e = go (checkFrom schema pool ws maxDepth (atStart schema pool ws)) refl (check-answers maxDepth (atStart schema pool ws)) e
+  fault-none e = go fromStart refl (check-answers maxDepth (atStart schema pool ws)) e
     where
       left : (t : Progress) (b : Bool) → eqb (t .place) (length ws) ≡ b → cond b 0 malformed ≡ 0 → t .place ≡ length ws
       left t true f e = eqb-true _ _ f
       left t false f e = absurd (omega arith)
 
-      go : (x : Checked) → checkFrom schema pool ws maxDepth (atStart schema pool ws) ≡ x → Answers x → finish schema pool ws x ≡ 0
-          → (t : Progress) × (checkFrom schema pool ws maxDepth (atStart schema pool ws) ≡ Passed t) × (t .place ≡ length ws)
+      go : (x : Checked) → fromStart ≡ x → Answers x → finish schema pool ws x ≡ 0
+          → (t : Progress) × (fromStart ≡ Passed t) × (t .place ≡ length ws)
       go (Refused n) f h e = absurd (omega arith)
       go (Passed t) f h e = (t, f, left t (eqb (t .place) (length ws)) refl e)

@@ -6,3 +6,4 @@ pub mod Meaning
 pub mod Rows
 pub mod CheckingLaws
 pub mod Accepted
+pub mod Refusals

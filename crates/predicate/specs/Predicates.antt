@@ -1,10 +1,10 @@
 -- Predicates, and the one that words in prefix order stand for: a total reading, whatever the words. Assumes nothing.
-use mathlib.Core.Path.{_≡_, refl}
+use mathlib.Core.Path.{_≡_, refl, ap}
 use mathlib.Core.Bool.{Bool}
 use mathlib.Core.List.{List, [], _∷_}
 use Prim.Native.Nat.{ℕ, zero, suc, _+_, _-_}
 use native.Mathlib.Numerals.{sub-one}
-use lib.ListN.{getD}
+use lib.ListN.{length, getD}
 use Rattle.operators.specs.declared.Operator.{Operator}
 use Rattle.kleene.specs.declared.Truth.{Truth}
 use Rattle.kleene.specs.declared.Truth.the-variants.{Unknown}
@@ -80,3 +80,8 @@ pub read-node : (pool ws : List ℕ) (d at : ℕ) → (d ≡ 0 → ⊥) → (n :
 unfolding predicateAt
 read-node pool ws zero at h n e = absurd (h refl)
 read-node pool ws (suc d) at h n e = rw (sub-one, e)
+
+pub length-values : (pool ws : List ℕ) (n at : ℕ) → length (valuesAt pool ws n at) ≡ n
+unfolding valuesAt
+length-values pool ws zero at = refl
+length-values pool ws (suc n) at = ap suc (length-values pool ws n (at + 1))
