@@ -3,7 +3,7 @@ use mathlib.Core.Bool.{Bool, true, false, cond, _&&_, _||_}
 use mathlib.Core.List.{List, [], _∷_}
 use Prim.Native.Nat.{ℕ, zero, suc, _+_, _*_}
 use lib.ListN.{length, getD}
-use lib.Dec.{eqb, leb}
+use lib.Dec.{eqb, leb, ltb}
 use lib.IntN.{pos}
 use Rattle.words.specs.Word.{wordAt}
 use Rattle.literals.specs.Literals.{Value, null, int, typeOf, offsetOf, nullType, integerType, plain, suits, valueAt}
@@ -45,9 +45,13 @@ module _ (schema pool : List ℕ) (list : List Statistic) (grid : List ℕ) wher
   rowsFine zero at = true
   rowsFine (suc n) at = rowFine list at && rowsFine n (at + length list)
 
-  -- the cell of a statistic in a container
+  -- the cell at a place of a container's row
+  abbrev pub cellAt : ℕ → ℕ → Statistic → Value
+  cellAt container p s = cellValue pool s (getD grid (container * length list + p) 0)
+
+  -- the cell of a statistic in a container; one that is not listed is absent
   unfoldable pub cellOf : ℕ → Statistic → Value
-  cellOf container s = cellValue pool s (getD grid (container * length list + placeOf s list) 0)
+  cellOf container s = cond (ltb (placeOf s list) (length list)) (cellAt container (placeOf s list) s) null
 
 -- ---- answers: none at all, or a byte up to 2 for each container, then guarantee
 

@@ -40,7 +40,7 @@ fn four(a: u8, b: u8, c: u8, d: u8) -> u64
     ((wide(a) * 256 + wide(b)) * 256 + wide(c)) * 256 + wide(d)
 }
 
-// Eight bytes as a number; by halves of four it is compiled to one load.
+// Eight bytes as a number, by halves of four.
 fn of_bytes(a: u8, b: u8, c: u8, d: u8, e: u8, f: u8, g: u8, h: u8) -> u64
     ensures { λ r. ⌜ r ≡ ofBytes a b c d e f g h ⌝ }
 {
