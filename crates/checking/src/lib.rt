@@ -12,7 +12,7 @@ ghost use lib.ListN.{length};
 ghost use lib.Dec.{ltb};
 ghost use Rattle.words.specs.Word.{wordsOf};
 ghost use Rattle.literals.specs.Literals.{suits};
-ghost use Rattle.predicate.specs.Checking.{typesFine, schemaFine, bare as bareShape, columnar as columnarShape, shapeOf, unusedZero, formed, limited, typeIn, flippable, columned, literalLimited, patterned, literalFault, checkLiteral, checkLiterals, checkFrom, predicateFault};
+ghost use Rattle.predicate.specs.Checking.{typesFine, schemaFine, bare as bareShape, columnar as columnarShape, shapeOf, unusedZero, formed, limited, firstFault, typeIn, flippable, columned, literalLimited, patterned, literalFault, checkLiteral, checkLiterals, checkFrom, predicateFault};
 ghost use Rattle.predicate.specs.Calls.{roomy, rewriteFault};
 ghost use Rattle.checking.specs.Judging.{judgeOf};
 
@@ -110,6 +110,19 @@ pub fn formed(w: u64) -> bool
     predicate::zero_of(w) == 0
 }
 
+// A word's fault, or 0: 4 before 5 before 6.
+fn first_fault(formed: bool, limited: bool, fitting: bool) -> u8
+    ensures { λ r. ⌜ r ≡ firstFault formed limited fitting ⌝ }
+{
+    if !formed {
+        return limits::MALFORMED;
+    }
+    if !limited {
+        return limits::OVER_LIMIT;
+    }
+    if fitting { 0 } else { limits::MISFIT }
+}
+
 // Whether a node word keeps the limits of depth, nodes and list literals.
 fn limited(depth: usize, s: Progress, w: u64) -> bool
     ensures { λ r. ⌜ r ≡ limited depth s w ⌝ }
@@ -171,7 +184,7 @@ pub fn columned(schema: &[u8], n: Node) -> bool
     }
 }
 
-// Judges the node word at the next place, with a depth left: 4, then 5, then 6.
+// Judges the node word at the next place, with a depth left.
 pub fn judge(schema: &[u8], pool: &[u8], words: &[u8], depth: usize, s: Progress) -> Judged
     ensures { λ r. ⌜ r ≡ judgeOf (now (schema .entry)) (now (pool .entry)) (wordsOf (now (words .entry))) depth s ⌝ }
 {
@@ -180,17 +193,12 @@ pub fn judge(schema: &[u8], pool: &[u8], words: &[u8], depth: usize, s: Progress
         return Judged::Faulty(limits::MALFORMED);
     }
     let w = words::word_or_zero(words, at);
-    if !formed(w) {
-        return Judged::Faulty(limits::MALFORMED);
-    }
-    if !limited(depth, s, w) {
-        return Judged::Faulty(limits::OVER_LIMIT);
-    }
     let n = predicate::node_at(pool, words, at);
-    if columned(schema, n) {
+    let fault = first_fault(formed(w), limited(depth, s, w), columned(schema, n));
+    if fault == 0 {
         Judged::Fine(n)
     } else {
-        Judged::Faulty(limits::MISFIT)
+        Judged::Faulty(fault)
     }
 }
 
@@ -232,17 +240,11 @@ fn suitable(pool: &[u8], pattern: bool, kind: u8, w: u64) -> bool
 fn literal_fault(pool: &[u8], pattern: bool, kind: u8, s: Progress, w: u64) -> u8
     ensures { λ r. ⌜ r ≡ literalFault (now (pool .entry)) pattern kind s w ⌝ }
 {
-    if !literals::is_plain(w) {
-        return limits::MALFORMED;
-    }
-    if !literal_limited(s, w) {
-        return limits::OVER_LIMIT;
-    }
-    if suitable(pool, pattern, kind, w) {
-        0
-    } else {
-        limits::MISFIT
-    }
+    first_fault(
+        literals::is_plain(w),
+        literal_limited(s, w),
+        suitable(pool, pattern, kind, w),
+    )
 }
 
 // Checks the literal word at the next place for a column.
