@@ -194,33 +194,31 @@ fn is_none(s: &[u8]) -> bool {
     if s.len() == 1 { s[0] == b'-' } else { false }
 }
 
-// Calls rewriting's checks with a line's numbers, and compares the answer.
+// A line's list limit and four rooms.
+fn read_numbers(line: &[u8], out: &mut [usize; 5]) -> bool {
+    let mut i = 0;
+    while i < 5 {
+        match number_of(field(line, i + 4)) {
+            Number::Unread => {
+                return false;
+            }
+            Number::Is(n) => {
+                let k = i as usize;
+                out[k] = n;
+            }
+        }
+        i += 1;
+    }
+    true
+}
+
+// Calls rewriting's checks, and compares the answer.
 fn compare(line: &[u8], schema: &[u8], predicate: &[u8], pool: &[u8]) -> Replay {
-    let Number::Is(limit) = number_of(field(line, 4)) else {
+    let mut n = [0usize; 5];
+    if !read_numbers(line, &mut n) {
         return Replay::Unread;
-    };
-    let Number::Is(table) = number_of(field(line, 5)) else {
-        return Replay::Unread;
-    };
-    let Number::Is(literals) = number_of(field(line, 6)) else {
-        return Replay::Unread;
-    };
-    let Number::Is(statistics) = number_of(field(line, 7)) else {
-        return Replay::Unread;
-    };
-    let Number::Is(guarantees) = number_of(field(line, 8)) else {
-        return Replay::Unread;
-    };
-    let fault = checking::rewrite_fault(
-        schema,
-        predicate,
-        pool,
-        limit,
-        table,
-        literals,
-        statistics,
-        guarantees,
-    );
+    }
+    let fault = checking::rewrite_fault(schema, predicate, pool, n[0], n[1], n[2], n[3], n[4]);
     is_answer(field(line, 9), fault)
 }
 
@@ -245,26 +243,31 @@ fn front(s: &[u8], n: usize) -> &[u8] {
     if n <= s.len() { &s[..n] } else { s }
 }
 
+// Replays a line whose schema and predicate are read.
+fn replay_pool(line: &[u8], schema: &[u8], predicate: &[u8]) -> Replay {
+    let mut pool = [0u8; 66000];
+    match fill(field(line, 3), &mut pool) {
+        Filled::Bytes(n) => compare(line, schema, predicate, front(&pool, n)),
+        Filled::Unread => Replay::Unread,
+    }
+}
+
+// Replays a line whose schema is read.
+fn replay_predicate(line: &[u8], schema: &[u8]) -> Replay {
+    let mut predicate = [0u8; 4096];
+    match fill(field(line, 2), &mut predicate) {
+        Filled::Bytes(n) => replay_pool(line, schema, front(&predicate, n)),
+        Filled::Unread => Replay::Unread,
+    }
+}
+
 // Replays a line.
 fn replay_line(line: &[u8]) -> Replay {
     let mut schema = [0u8; 512];
-    let Filled::Bytes(a) = fill(field(line, 1), &mut schema) else {
-        return Replay::Unread;
-    };
-    let mut predicate = [0u8; 4096];
-    let Filled::Bytes(b) = fill(field(line, 2), &mut predicate) else {
-        return Replay::Unread;
-    };
-    let mut pool = [0u8; 66000];
-    let Filled::Bytes(c) = fill(field(line, 3), &mut pool) else {
-        return Replay::Unread;
-    };
-    compare(
-        line,
-        front(&schema, a),
-        front(&predicate, b),
-        front(&pool, c),
-    )
+    match fill(field(line, 1), &mut schema) {
+        Filled::Bytes(n) => replay_predicate(line, front(&schema, n)),
+        Filled::Unread => Replay::Unread,
+    }
 }
 
 // Replays the first len bytes of a buffer; a line that fills it may be longer.
@@ -344,19 +347,27 @@ fn replay_file(fd: i32, counts: &mut [u64; 3]) {
     }
 }
 
-fn main() {
-    let mut counts = [0u64; 3];
-    let fd = os::open_read(b"refusals.txt");
+// Writes a count and what it counts.
+fn print_count(n: u64, what: &[u8]) {
+    io::print_decimal(STDOUT_FILENO, n);
+    io::write_all(STDOUT_FILENO, what);
+}
+
+// Replays the file of a name.
+fn replay_named(name: &[u8], counts: &mut [u64; 3]) {
+    let fd = os::open_read(name);
     if fd < 0 {
-        os::fail(b"refusals.txt");
+        os::fail(name);
         return;
     }
-    replay_file(fd, &mut counts);
+    replay_file(fd, counts);
     libc::close(fd);
-    io::print_decimal(STDOUT_FILENO, counts[0]);
-    io::write_all(STDOUT_FILENO, b" replayed, ");
-    io::print_decimal(STDOUT_FILENO, counts[1]);
-    io::write_all(STDOUT_FILENO, b" differ, ");
-    io::print_decimal(STDOUT_FILENO, counts[2]);
-    io::write_all(STDOUT_FILENO, b" unread\n");
+}
+
+fn main() {
+    let mut counts = [0u64; 3];
+    replay_named(b"refusals.txt", &mut counts);
+    print_count(counts[0], b" replayed, ");
+    print_count(counts[1], b" differ, ");
+    print_count(counts[2], b" unread\n");
 }
