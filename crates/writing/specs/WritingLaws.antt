@@ -121,27 +121,26 @@ room-negation x s t old mid pool m h =
     let w = m .words in
     rw (h .answer, h .table) (record { words = rw length-sets (omega arith); bytes = m .bytes; small = m .small })
 
-module _ (j : Joining) (x y : Table) (s t : Spot) (old mid pool : List ℕ) (m : Room (both j x y) s old pool) where
-  pub room-word : Wide 1 s old
-  room-word = let w = m .words in omega arith
+pub room-word : (j : Joining) (x y : Table) (s : Spot) (old pool : List ℕ) → Room (both j x y) s old pool → Wide 1 s old
+room-word j x y s old pool m = let w = m .words in omega arith
 
-  module _ (h : Head (joinWord j ∷ []) s old mid t) where
-    pub room-left : Room x t mid pool
-    unfolding poolOf
-    room-left =
-        let w = m .words in
-        let b = m .bytes in
-        let k = m .small in
-        let n = length-append (poolOf x) (poolOf y) in
-        rw (h .answer, h .table) (record { words = rw length-sets (omega arith); bytes = omega arith; small = omega arith })
+module _ (j : Joining) (x y : Table) (s t : Spot) (old mid pool : List ℕ) (m : Room (both j x y) s old pool) (h : Head (joinWord j ∷ []) s old mid t) where
+  pub room-left : Room x t mid pool
+  unfolding poolOf
+  room-left =
+      let w = m .words in
+      let b = m .bytes in
+      let k = m .small in
+      let n = length-append (poolOf x) (poolOf y) in
+      rw (h .answer, h .table) (record { words = rw length-sets (omega arith); bytes = omega arith; small = omega arith })
 
-    pub room-right : (list : List Statistic) (u : Spot) (mid₂ pool₂ : List ℕ) → Wrote x list t mid mid₂ pool pool₂ u → Room y u mid₂ pool₂
-    unfolding poolOf
-    room-right list u mid₂ pool₂ a =
-        let w = m .words in
-        let b = m .bytes in
-        let k = m .small in
-        let n = length-append (poolOf x) (poolOf y) in
-        let a′ = rw (h .answer, h .table) at a in
-        rw (a′ .answer, a′ .table, a′ .pool)
-        (record { words = rw (length-sets, length-sets) (omega arith); bytes = rw length-sets (omega arith); small = omega arith })
+  pub room-right : (list : List Statistic) (u : Spot) (mid₂ pool₂ : List ℕ) → Wrote x list t mid mid₂ pool pool₂ u → Room y u mid₂ pool₂
+  unfolding poolOf
+  room-right list u mid₂ pool₂ a =
+      let w = m .words in
+      let b = m .bytes in
+      let k = m .small in
+      let n = length-append (poolOf x) (poolOf y) in
+      let a′ = rw (h .answer, h .table) at a in
+      rw (a′ .answer, a′ .table, a′ .pool)
+      (record { words = rw (length-sets, length-sets) (omega arith); bytes = rw length-sets (omega arith); small = omega arith })
