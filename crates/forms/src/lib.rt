@@ -4,6 +4,7 @@ use literals::Literal;
 use operators::Operator;
 use predicate::Column;
 use statistics::Statistic;
+use turning::Turned;
 use writing::Spot;
 ghost use mathlib.Core.Path.{_≡_};
 ghost use mathlib.Core.Bool.{true, false};
@@ -11,8 +12,9 @@ ghost use Rattle.kleene.specs.declared.Joining.the-variants.{Or};
 ghost use Rattle.literals.specs.Literals.{valueOf};
 ghost use Rattle.statistics.specs.declared.Statistic.the-variants.{Least, Greatest};
 ghost use Rattle.table.specs.Tables.{both, against};
-ghost use Rattle.table.specs.Comparisons.{equalForm, unequalForm, hasBlanks, wrapped, distinctForm, notDistinctForm, comparisonForm};
+ghost use Rattle.table.specs.Comparisons.{equalForm, unequalForm, hasBlanks, wrapped, distinctForm, notDistinctForm, comparisonForm, turnedForm};
 ghost use Rattle.listing.specs.Listing.{listOf, Few};
+ghost use Rattle.turning.specs.Turns.{turnedOf, TurnedInside, TurnedFits};
 ghost use Rattle.writing.specs.Writing.{Room, Ready, Wrote};
 ghost use Rattle.forms.specs.Forms.{isNull};
 
@@ -235,5 +237,24 @@ pub fn write_comparison(
         Operator::AtLeast => write_greatest(list, input, Operator::AtLeast, c, l, table, pool, s),
         Operator::Distinct => build_is_distinct_from(list, input, c, l, table, pool, s),
         Operator::NotDistinct => build_is_not_distinct_from(list, input, c, l, table, pool, s),
+    }
+}
+
+// Writes a turned comparison's form, and true where it is unhandled.
+pub fn write_turned(
+    list: &[u8],
+    input: &[u8],
+    c: Column,
+    t: Turned,
+    table: &mut [u8],
+    pool: &mut [u8],
+    s: Spot,
+) -> Spot
+    requires { ⌜ Few (now list) × TurnedInside (now input) t × TurnedFits t × Room (turnedForm c (turnedOf (now input) t)) s (now table) (now pool) ⌝ }
+    ensures { λ r. ⌜ Wrote (turnedForm c (turnedOf (now (input .entry)) t)) (listOf (now (list .entry))) s (now (table .entry)) (now (table .exit)) (now (pool .entry)) (now (pool .exit)) r ⌝ }
+{
+    match t {
+        Turned::Against(o, l) => write_comparison(list, input, c, o, l, table, pool, s),
+        Turned::Unhandled => writing::write_always(true, table, s),
     }
 }

@@ -1,51 +1,18 @@
-// What a leaf of a predicate becomes: a turned comparison's form and list, and LIKE's form.
+// The form of LIKE, written into a lent table and a lent literal pool.
 use kleene::Joining;
 use literals::Literal;
 use operators::Operator;
 use predicate::Column;
 use statistics::Statistic;
-use turning::Turned;
 use words::Range;
 use writing::Spot;
 ghost use mathlib.Core.Path.{_≡_};
 ghost use Prim.Native.Nat.{_^_, _<_};
 ghost use lib.ListN.{length};
 ghost use Rattle.literals.specs.declared.Literal.the-variants.{Text};
-ghost use Rattle.table.specs.Comparisons.{wrapped, turnedForm, likeForm};
-ghost use Rattle.listing.specs.Listing.{listOf, Few, Room as ListRoom, Grown};
-ghost use Rattle.turning.specs.Turns.{turnedOf, TurnedInside, TurnedFits};
+ghost use Rattle.table.specs.Comparisons.{wrapped, likeForm};
+ghost use Rattle.listing.specs.Listing.{listOf, Few};
 ghost use Rattle.writing.specs.Writing.{Room, Wrote};
-ghost use Rattle.leaves.specs.Leaves.{turnedStatistics};
-
-// Writes a turned comparison's form, and true where it is unhandled.
-pub fn write_turned(
-    list: &[u8],
-    input: &[u8],
-    c: Column,
-    t: Turned,
-    table: &mut [u8],
-    pool: &mut [u8],
-    s: Spot,
-) -> Spot
-    requires { ⌜ Few (now list) × TurnedInside (now input) t × TurnedFits t × Room (turnedForm c (turnedOf (now input) t)) s (now table) (now pool) ⌝ }
-    ensures { λ r. ⌜ Wrote (turnedForm c (turnedOf (now (input .entry)) t)) (listOf (now (list .entry))) s (now (table .entry)) (now (table .exit)) (now (pool .entry)) (now (pool .exit)) r ⌝ }
-{
-    match t {
-        Turned::Against(o, l) => forms::write_comparison(list, input, c, o, l, table, pool, s),
-        Turned::Unhandled => writing::write_always(true, table, s),
-    }
-}
-
-// Lists what a turned comparison reads, and nothing where it is unhandled.
-pub fn list_turned(list: &mut [u8], n: usize, c: Column, t: Turned) -> usize
-    requires { ⌜ ListRoom (turnedStatistics c t) n (now list) ⌝ }
-    ensures { λ r. ⌜ Grown (turnedStatistics c t) n (now (list .entry)) (now (list .exit)) r ⌝ }
-{
-    match t {
-        Turned::Against(o, _) => listing::list_comparison(list, n, c, o),
-        Turned::Unhandled => n,
-    }
-}
 
 // A text as a literal over itself.
 fn whole(text: &[u8]) -> Literal

@@ -10,10 +10,10 @@ use Rattle.listing.specs.Listing.{listOf}
 use Rattle.statistics.specs.declared.Statistic.{Statistic}
 use Rattle.statistics.specs.declared.Statistic.the-variants.{Least, Greatest}
 use Rattle.table.specs.Tables.{Table, against}
-use Rattle.leaves.proofs.Laws.{whole-is, whole-ready}
+use Rattle.likes.proofs.Laws.{whole-is, whole-ready}
 use Rattle.writing.specs.WritingLaws.{room-word, room-left, room-right, wrote-both}
-use Rattle.leaves.proofs.build_like_match.Statement.{statement}
-use Rattle.leaves.proofs.build_like_match.Tie as tie
+use Rattle.likes.proofs.build_like_match.Statement.{statement}
+use Rattle.likes.proofs.build_like_match.Tie as tie
 
 abbrev listed : tie.Start → List Statistic
 listed s = listOf (now (s .args .list))

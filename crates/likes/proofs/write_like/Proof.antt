@@ -8,8 +8,8 @@ use Rattle.statistics.specs.declared.Statistic.{Statistic}
 use Rattle.table.specs.Comparisons.{likeForm}
 use Rattle.table.specs.Tables.{Table}
 use Rattle.writing.specs.WritingLaws.{room-wrapped, wrote-wrapped}
-use Rattle.leaves.proofs.write_like.Statement.{statement}
-use Rattle.leaves.proofs.write_like.Tie as tie
+use Rattle.likes.proofs.write_like.Statement.{statement}
+use Rattle.likes.proofs.write_like.Tie as tie
 
 abbrev listed : tie.Start → List Statistic
 listed s = listOf (now (s .args .list))

@@ -2,8 +2,8 @@
 use borrow.Author.Needs.{needs}
 use denote.Ref.{now}
 use Rattle.listing.specs.Listing.{listOf}
-use Rattle.leaves.proofs.write_turned.Statement.{statement}
-use Rattle.leaves.proofs.write_turned.Tie as tie
+use Rattle.forms.proofs.write_turned.Statement.{statement}
+use Rattle.forms.proofs.write_turned.Tie as tie
 
 write-comparison-requires : tie.Need-write-comparison-requires
 write-comparison-requires c κs =
