@@ -10,3 +10,4 @@ pub mod FormsSound
 pub mod Measures
 pub mod EncodingLaws
 pub mod Soundness
+pub mod Sharpness
