@@ -1,3 +1,4 @@
 pub mod Guarantees
 pub mod Fitting
 pub mod GuaranteeLaws
+pub mod Bounds

@@ -1,16 +1,23 @@
 -- Induction over rewriting: what the table and the statistics of every leaf have, and a join keeps, those of every predicate have.
 -- Assumes nothing.
-use mathlib.Core.Bool.{Bool, true, false, cond}
+use mathlib.Core.Path.{_≡_, refl}
+use mathlib.Core.Bool.{Bool, true, false, cond, not as negation, _||_}
 use mathlib.Core.List.{List, [], _∷_, _++_, append-assoc, append-nil}
-use Prim.Native.Nat.{ℕ}
+use Prim.Native.Nat.{ℕ, zero, suc}
 use lib.ListN.{length}
-use lib.Dec.{leb}
+use lib.Dec.{eqb, leb, ltb}
+use lib.IntN.{ℤ}
+use Rattle.operators.specs.Operators.{swapOf}
 use Rattle.operators.specs.declared.Operator.{Operator}
+use Rattle.operators.specs.declared.Operator.the-variants.{Equal, NotEqual, Below, AtMost, Above, AtLeast, Distinct, NotDistinct}
 use Rattle.kleene.specs.declared.Truth.{Truth}
 use Rattle.kleene.specs.declared.Truth.the-variants.{False, Unknown, True}
 use Rattle.kleene.specs.declared.Joining.{Joining}
 use Rattle.kleene.specs.declared.Joining.the-variants.{Or}
-use Rattle.literals.specs.Literals.{Value, null, int, text, truth}
+use Rattle.literals.specs.Signed.{negated}
+use Rattle.literals.specs.Literals.{Value, null, int, text, truth, integerType, truthType}
+use Rattle.literals.specs.declared.Negated.{Negated}
+use Rattle.literals.specs.declared.Negated.the-variants.{To, Unhandled}
 use Rattle.predicate.specs.declared.Column.{Column}
 use Rattle.predicate.specs.Predicates.{Predicate, constant, join, not, column, isNull, isNotNull, comparison, list, like}
 use Rattle.statistics.specs.declared.Statistic.{Statistic}
@@ -18,7 +25,7 @@ use Rattle.statistics.specs.declared.Statistic.the-variants.{Blanks, Rows}
 use Rattle.table.specs.declared.Folded.{Folded}
 use Rattle.table.specs.declared.Folded.the-variants.{Fixed, Left, Right, Both}
 use Rattle.table.specs.Tables.{Table, always, both, known, folds, folded, joined, unhandled}
-use Rattle.table.specs.Comparisons.{equalForm, unequalForm, hasBlanks, hasValues, wrapped, distinctForm, notDistinctForm, likeTable, likeLists}
+use Rattle.table.specs.Comparisons.{Turned, asks, stays, minusInt, minus, minuses, negatedTruth, flipOnce, truthFlips, noFlips, flipped, unturned, turned, equalForm, unequalForm, hasBlanks, hasValues, wrapped, distinctForm, notDistinctForm, likeTable, likeLists}
 use Rattle.table.specs.Rewriting.{constantTable, columnTable, notColumnTable, columnLists, notTable, notLists, listOperator, listJoining, comparisonTable, comparisonStatistics, membersTable, membersLists, nestedTable, rewritten, lists}
 
 -- a join is folded to a constant, to a side, or not at all
@@ -44,6 +51,79 @@ module _ (P : Table → Type 0) (c : Column) where
   not-distinct-by (int z) x y = y
   not-distinct-by (text bs) x y = y
   not-distinct-by (truth b) x y = y
+
+-- Q of the literal that is asked for
+abbrev pub Asked : (Value → Type 0) → Turned → Type 0
+Asked Q (asks o v) = Q v
+Asked Q stays = Unit {0}
+
+-- what negation keeps of a literal, turning keeps
+module _ (Q : Value → Type 0) (minus-kept : (z y : ℤ) → negated z ≡ To y → Q (int z) → Q (int y)) (not-kept : (b : Bool) → Q (truth b) → Q (truth (negation b))) where
+  minus-by : (f : Operator → Value → Turned) → ((o : Operator) (v : Value) → Q v → Asked Q (f o v)) → (o : Operator) (v : Value) → Q v → Asked Q (minus f o v)
+  minus-by f next o null q = next (swapOf o) null q
+  minus-by f next o (int z) q = go (negated z) refl
+    where
+      go : (r : Negated) → negated z ≡ r → Asked Q (minusInt f o r)
+      go (To y) e = next (swapOf o) (int y) (minus-kept z y e q)
+      go Unhandled e = tt
+  minus-by f next o (text bs) q = tt
+  minus-by f next o (truth b) q = tt
+
+  minuses-by : (n : ℕ) (o : Operator) (v : Value) → Q v → Asked Q (minuses n o v)
+  unfolding minuses
+  minuses-by zero o v q = q
+  minuses-by (suc n) o v q = minus-by (minuses n) (minuses-by n) o v q
+
+  negated-by : (v : Value) → Q v → Q (negatedTruth v)
+  negated-by null q = q
+  negated-by (int z) q = q
+  negated-by (text bs) q = q
+  negated-by (truth b) q = not-kept b q
+
+  once-by : (o : Operator) (v : Value) → Q v → Asked Q (flipOnce o v)
+  once-by Equal v q = negated-by v q
+  once-by NotEqual v q = negated-by v q
+  once-by Below v q = tt
+  once-by AtMost v q = tt
+  once-by Above v q = tt
+  once-by AtLeast v q = tt
+  once-by Distinct v q = tt
+  once-by NotDistinct v q = tt
+
+  truth-by : (n : ℕ) (o : Operator) (v : Value) → Q v → Asked Q (truthFlips n o v)
+  truth-by zero o v q = q
+  truth-by (suc zero) o v q = once-by o v q
+  truth-by (suc (suc n)) o v q = tt
+
+  none-by : (n : ℕ) (o : Operator) (v : Value) → Q v → Asked Q (noFlips n o v)
+  none-by zero o v q = q
+  none-by (suc n) o v q = tt
+
+  flipped-by : (type n : ℕ) (o : Operator) (v : Value) → Q v → Asked Q (flipped type n o v)
+  flipped-by type n o v q = go (eqb type integerType) (eqb type truthType)
+    where
+      go : (a b : Bool) → Asked Q (cond a (minuses n o v) (cond b (truthFlips n o v) (noFlips n o v)))
+      go true b = minuses-by n o v q
+      go false true = truth-by n o v q
+      go false false = none-by n o v q
+
+  unturned-by : (n : ℕ) (first : Bool) (o : Operator) (v : Value) → Q v → Asked Q (unturned n first o v)
+  unturned-by n first o v q = go (first || ltb 0 n)
+    where
+      go : (b : Bool) → Asked Q (cond b stays (asks o v))
+      go true = tt
+      go false = q
+
+  pub turned-by : (type : ℕ) (o : Operator) (n : ℕ) (first : Bool) (v : Value) → Q v → Asked Q (turned type o n first v)
+  unfolding turned
+  turned-by type Equal n first v q = flipped-by type n (cond first (swapOf Equal) Equal) v q
+  turned-by type NotEqual n first v q = flipped-by type n (cond first (swapOf NotEqual) NotEqual) v q
+  turned-by type Below n first v q = flipped-by type n (cond first (swapOf Below) Below) v q
+  turned-by type AtMost n first v q = flipped-by type n (cond first (swapOf AtMost) AtMost) v q
+  turned-by type Above n first v q = flipped-by type n (cond first (swapOf Above) Above) v q
+  turned-by type AtLeast n first v q = flipped-by type n (cond first (swapOf AtLeast) AtLeast) v q
+  turned-by type Distinct n first v q = unturned-by n first Distinct v q
+  turned-by type NotDistinct n first v q = unturned-by n first NotDistinct v q
 
 -- P of a predicate, its table and what it lists, at every leaf and at a join
 pub record Kept (schema : List ℕ) (P : Predicate → Table → List Statistic → Type 0) : Type 0 where

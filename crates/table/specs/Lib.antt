@@ -11,4 +11,5 @@ pub mod FormsSound
 pub mod Measures
 pub mod EncodingLaws
 pub mod Naming
+pub mod Bounds
 pub mod Soundness
