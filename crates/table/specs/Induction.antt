@@ -28,6 +28,8 @@ use Rattle.table.specs.Tables.{Table, always, both, known, folds, folded
 use Rattle.table.specs.Comparisons.{Turned, asks, stays, minusInt, minus, minuses, negatedTruth, flipOnce, truthFlips, noFlips, flipped, unturned, turned, equalForm, unequalForm, hasBlanks, hasValues, wrapped, distinctForm, notDistinctForm, likeTable, likeLists}
 use Rattle.table.specs.Rewriting.{constantTable, columnTable, notColumnTable, columnLists, notTable, notLists, listOperator, listJoining, comparisonTable, comparisonStatistics, membersTable, membersLists, nestedTable, rewritten, lists}
 
+-- ---- parts
+
 -- a join is folded to a constant, to a side, or not at all
 pub joined-by : (P : Table → Type 0) (j : Joining) (l r : Table) → ((b : Bool) → P (always b)) → P l → P r → P (both j l r) → P (joined j l r)
 joined-by P j l r fixed left right whole = go (folds j (known l) (known r))
@@ -51,6 +53,8 @@ module _ (P : Table → Type 0) (c : Column) where
   not-distinct-by (int z) x y = y
   not-distinct-by (text bs) x y = y
   not-distinct-by (truth b) x y = y
+
+-- ---- the literal of a comparison
 
 -- Q of the literal that is asked for
 abbrev pub Asked : (Value → Type 0) → Turned → Type 0
@@ -124,6 +128,8 @@ module _ (Q : Value → Type 0) (minus-kept : (z y : ℤ) → negated z ≡ To y
   turned-by type AtLeast n first v q = flipped-by type n (cond first (swapOf AtLeast) AtLeast) v q
   turned-by type Distinct n first v q = unturned-by n first Distinct v q
   turned-by type NotDistinct n first v q = unturned-by n first NotDistinct v q
+
+-- ---- predicates
 
 -- P of a predicate, its table and what it lists, at every leaf and at a join
 pub record Kept (schema : List ℕ) (P : Predicate → Table → List Statistic → Type 0) : Type 0 where

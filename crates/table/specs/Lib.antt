@@ -12,4 +12,5 @@ pub mod Measures
 pub mod EncodingLaws
 pub mod Naming
 pub mod Bounds
+pub mod Proper
 pub mod Soundness
