@@ -1,13 +1,12 @@
 -- How many guarantees a predicate gives, and that each names a column and a node word of the predicate. Assumes nothing.
 use mathlib.Core.Bool.{Bool, true, false}
 use mathlib.Core.List.{List, [], _∷_, _++_}
-use Prim.Native.Nat.{ℕ, zero, suc, _+_, _*_, _^_, _≤_, _<_}
+use Prim.Native.Nat.{ℕ, zero, suc, _+_, _^_, _≤_, _<_}
 use native.Mathlib.Omega.{arith}
 use lib.ListN.{length, length-append}
 use Rattle.limits.specs.Limits.{maxColumns, maxGuarantees}
 use Rattle.operators.specs.declared.Operator.{Operator}
 use Rattle.operators.specs.declared.Operator.the-variants.{Equal, NotEqual, Below, AtMost, Above, AtLeast, Distinct, NotDistinct}
-use Rattle.kleene.specs.declared.Joining.{Joining}
 use Rattle.kleene.specs.declared.Joining.the-variants.{And, Or}
 use Rattle.literals.specs.Literals.{Value}
 use Rattle.predicate.specs.declared.Column.{Column}
@@ -15,7 +14,7 @@ use Rattle.predicate.specs.Predicates.{Predicate, constant, join, not, column, 
 use Rattle.predicate.specs.Measures.{width, leaves}
 use Rattle.predicate.specs.Accepted.{ColumnsBelow, width-most, Whole}
 use Rattle.guarantees.specs.Guarantees.{Guarantee, nonNull, overSet, unflipped, ofComparison, guarantees}
-use Rattle.guarantees.specs.GuaranteeLaws.{Small, AllSmall}
+use Rattle.guarantees.specs.GuaranteeLaws.{AllSmall}
 
 -- ---- one induction: a leaf gives none or one, of its own column and place
 

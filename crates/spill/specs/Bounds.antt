@@ -23,10 +23,11 @@ use Rattle.table.specs.Measures.{width-is}
 use Rattle.table.specs.Naming.{rewritten-listed, statistics-distinct, statistics-columns, statistics-most}
 use Rattle.table.specs.Bounds.{words-most, pool-most, height-most}
 use Rattle.table.specs.Proper.{rewritten-proper}
-use Rattle.guarantees.specs.Guarantees.{guarantees}
+use Rattle.guarantees.specs.Guarantees.{guarantees, guaranteeWords}
 use Rattle.guarantees.specs.Bounds.{guarantees-most, guarantees-columns, guarantees-small}
 use Rattle.pruning.specs.TableReading.{tableAt}
-use Rattle.pruning.specs.Writes.{Bounded, statistics-back, read-back}
+use Rattle.pruning.specs.TableChecking.{checkedTable}
+use Rattle.pruning.specs.Writes.{Bounded, statistics-back, read-back, written-checked}
 use Rattle.spill.specs.Rewrite.{typesFine, schemaFine, Rooms, roomy, rewriteFault, predicateOf}
 
 -- ---- the call
@@ -117,3 +118,7 @@ module _ (schema predicate pool : List ℕ) (limit : ℕ) (rooms : Rooms) (e : r
 
   pub call-table : tableAt listOf (poolOf tableOf) (wordsOf (bytesOf (tableWords listOf 0 tableOf))) maxTableDepth 0 .table ≡ tableOf
   call-table = read-back schema (length (wordsOf predicate)) tableOf listOf (guarantees 0 (predicateOf predicate pool)) call-bounded
+
+  pub call-checked : checkedTable schema (bytesOf (tableWords listOf 0 tableOf)) (poolOf tableOf) (bytesOf (statisticWords listOf))
+      (bytesOf (guaranteeWords (guarantees 0 (predicateOf predicate pool)))) ≡ true
+  call-checked = written-checked schema (length (wordsOf predicate)) tableOf listOf (guarantees 0 (predicateOf predicate pool)) call-bounded

@@ -3,7 +3,7 @@ use mathlib.Core.Path.{_≡_, refl, sym, _∙_}
 use mathlib.Core.Bool.{Bool, false}
 use mathlib.Core.List.{List, [], _∷_, _++_}
 use mathlib.Core.Option.{Option, some, none}
-use Prim.Native.Nat.{ℕ, suc, _+_, _*_, _≤_, _<_, max}
+use Prim.Native.Nat.{ℕ, suc, _+_, _*_, _≤_, max}
 use native.Mathlib.Omega.{arith}
 use lib.ListN.{length, length-append}
 use lib.IntN.{ℤ}
@@ -17,7 +17,7 @@ use Rattle.literals.specs.Literals.{Value, null, int, text, truth, valueBytes}
 use Rattle.text.specs.Pattern.{prefixOf}
 use Rattle.text.specs.Upper.{upperOf, prefix-length, upper-length}
 use Rattle.predicate.specs.declared.Column.{Column}
-use Rattle.predicate.specs.Predicates.{Predicate, constant, join, not, column, isNull, isNotNull, comparison, list, like}
+use Rattle.predicate.specs.Predicates.{Predicate, join, not, column, isNull, isNotNull, comparison, list}
 use Rattle.predicate.specs.Measures.{leaves, depth, listed, valuesBytes, literalBytes}
 use Rattle.predicate.specs.Checking.{typeIn}
 use Rattle.predicate.specs.Accepted.{literals-split, Fine, Pattern, leaves-some, Whole}

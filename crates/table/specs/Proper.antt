@@ -1,8 +1,8 @@
 -- A predicate's table is as a checked table must be: each node names statistics of the sort that it reads, each literal is null or of its
 -- statistic's column's type, and fits a word. Assumes nothing.
 use mathlib.Core.Path.{_≡_, refl}
-use mathlib.Core.Bool.{Bool, true, false}
-use mathlib.Core.List.{List, [], _∷_, _++_}
+use mathlib.Core.Bool.{Bool, false}
+use mathlib.Core.List.{List, [], _∷_}
 use mathlib.Core.Option.{Option, some, none}
 use Prim.Native.Nat.{ℕ, _≤_, _<_}
 use native.Mathlib.Omega.{arith}
@@ -53,7 +53,7 @@ Proper schema (differ s t) = (typeOf s ≡ 2) × (typeOf t ≡ 3)
 Proper schema (holds s) = Bound s × (typeIn schema (columnIn s) ≡ truthType)
 Proper schema (negation t) = Proper schema t
 
-suits-plain : (type : ℕ) (v : Value) → Suits type v → Plain v
+pub suits-plain : (type : ℕ) (v : Value) → Suits type v → Plain v
 suits-plain type null h = tt
 suits-plain type (int z) h = h .1
 suits-plain type (text bs) h = omega (arith, h .1)
