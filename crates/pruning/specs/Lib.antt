@@ -3,3 +3,4 @@ pub mod TableChecking
 pub mod Cells
 pub mod Evaluating
 pub mod RoundTrip
+pub mod Writes
