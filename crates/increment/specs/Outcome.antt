@@ -1,13 +1,14 @@
--- What the search for a character to raise answers, and what a function leaves that makes a text in a buffer, if there is one. Assumes nothing.
+-- What the search for a character to raise answers, and what a function leaves that puts a text into a buffer. Assumes nothing.
 use mathlib.Core.Path.{_≡_, refl, sym, _∙_}
 use mathlib.Core.List.{List}
 use mathlib.Core.Option.{Option, some, none}
-use Prim.Native.Nat.{ℕ}
+use Prim.Native.Nat.{ℕ, _+_, _≤_}
 use native.Mathlib.Omega.{arith}
 use lib.ListN.{length, take}
 use Rattle.words.specs.Stores.{written, take-written}
-use Rattle.text.specs.Utf8.{bytesOf}
+use Rattle.text.specs.Utf8.{Utf8, bytesOf}
 use Rattle.text.specs.Increment.{Raise}
+use Rattle.text.specs.Upper.{upperOf, upper-length}
 use Rattle.increment.specs.declared.Next.{Next}
 use Rattle.increment.specs.declared.Next.the-variants.{To, Nothing}
 use Rattle.increment.specs.declared.Rise.{Rise}
@@ -35,7 +36,7 @@ abbrev pub over : Option (List ℕ) → List ℕ → List ℕ
 over none old = old
 over (some u) old = written u old
 
--- the answer r and the buffer, of a function that makes the text o, if there is one, in the buffer old
+-- what a function leaves that puts the text o, if there is one, at the front of the buffer old: its answer and the new buffer
 pub record Outcome (o : Option (List ℕ)) (old new : List ℕ) (r : End) : Type 0 where
   pub end : r ≡ endOf o
   pub out : new ≡ over o old
@@ -56,3 +57,7 @@ absent-none (some u) e = let z : _≡_ {A = ℕ} 0 1 = cc in absurd (omega arith
 -- the text stands at the front
 pub outcome-front : {u old new : List ℕ} {r : End} → Outcome (some u) old new r → take (length u) new ≡ u
 outcome-front {u} {old} o = rw (o .out) (take-written u old)
+
+-- an upper bound has at most one byte more than its pattern
+pub upper-end : (p : List ℕ) (n : ℕ) → Utf8 p → Until n ≡ endOf (upperOf p) → n ≤ length p + 1
+upper-end p n w e = let t = until-some (upperOf p) n e in rw (t .2) (upper-length p (t .0) w (t .1))

@@ -32,14 +32,14 @@ pub enum End {
     Absent,
 }
 
-// c lies in a .. b.
+// Whether c lies in a .. b.
 fn between(a: u32, b: u32, c: u32) -> bool
     ensures { λ r. ⌜ r ≡ within a b c ⌝ }
 {
     if a <= c { c <= b } else { false }
 }
 
-// May stand as a raised character: is_valid_unicode, and no surrogate.
+// Whether c may stand as a raised character (is_valid_unicode; surrogates, which char::from_u32 refuses there, are refused here).
 fn is_valid_unicode(c: u32) -> bool
     ensures { λ r. ⌜ r ≡ allowed c ⌝ }
 {
@@ -55,7 +55,7 @@ fn is_valid_unicode(c: u32) -> bool
     c <= 0x10FFFF
 }
 
-// The rule for one character.
+// The rule for one character: code point + 1, where that may stand.
 fn next_char(c: u32) -> Next
     requires { ⌜ c < 0x200000 ⌝ }
     ensures { λ r. ⌜ r ≡ nextOf (rule c) ⌝ }
@@ -68,7 +68,7 @@ fn next_char(c: u32) -> Next
     }
 }
 
-// A continuation byte.
+// Whether b is a continuation byte.
 fn cont(b: u8) -> bool
     ensures { λ r. ⌜ r ≡ isCont b ⌝ }
 {
@@ -99,19 +99,21 @@ fn wide(x: u8) -> u32
     x as u32
 }
 
-// The code point of two, three, four bytes.
+// The code point of two bytes.
 fn two(a: u8, b: u8) -> u32
     ensures { λ r. ⌜ r ≡ of2 a b ⌝ }
 {
     wide(a) % 32 * 64 + wide(b) % 64
 }
 
+// The code point of three bytes.
 fn three(a: u8, b: u8, c: u8) -> u32
     ensures { λ r. ⌜ r ≡ of3 a b c ⌝ }
 {
     wide(a) % 16 * 4096 + (wide(b) % 64 * 64 + wide(c) % 64)
 }
 
+// The code point of four bytes.
 fn four(a: u8, b: u8, c: u8, d: u8) -> u32
     ensures { λ r. ⌜ r ≡ of4 a b c d ⌝ }
 {
@@ -161,7 +163,7 @@ fn find_rise(s: &[u8]) -> Rise
     Rise::Never
 }
 
-// Stores a character of one, two, three, four bytes.
+// Stores a character of one byte.
 fn put_1(out: &mut [u8], at: usize, c: u32)
     requires { ⌜ (at + 1 ≤ length (now out)) × (c < 0x80) ⌝ }
     ensures { λ _. ⌜ now (out .exit) ≡ sets (now (out .entry)) at (enc1 c) ⌝ }
@@ -169,6 +171,7 @@ fn put_1(out: &mut [u8], at: usize, c: u32)
     out[at] = c as u8;
 }
 
+// Stores a character of two bytes.
 fn put_2(out: &mut [u8], at: usize, c: u32)
     requires { ⌜ (at + 2 ≤ length (now out)) × (c < 0x800) ⌝ }
     ensures { λ _. ⌜ now (out .exit) ≡ sets (now (out .entry)) at (enc2 c) ⌝ }
@@ -177,6 +180,7 @@ fn put_2(out: &mut [u8], at: usize, c: u32)
     out[at + 1] = (128 + c % 64) as u8;
 }
 
+// Stores a character of three bytes.
 fn put_3(out: &mut [u8], at: usize, c: u32)
     requires { ⌜ (at + 3 ≤ length (now out)) × (c < 0x10000) ⌝ }
     ensures { λ _. ⌜ now (out .exit) ≡ sets (now (out .entry)) at (enc3 c) ⌝ }
@@ -186,6 +190,7 @@ fn put_3(out: &mut [u8], at: usize, c: u32)
     out[at + 2] = (128 + c % 64) as u8;
 }
 
+// Stores a character of four bytes.
 fn put_4(out: &mut [u8], at: usize, c: u32)
     requires { ⌜ (at + 4 ≤ length (now out)) × (c < 0x110000) ⌝ }
     ensures { λ _. ⌜ now (out .exit) ≡ sets (now (out .entry)) at (enc4 c) ⌝ }
