@@ -100,15 +100,22 @@ pub record Fit (c : Call) (p : Predicate) (i : ℕ) (rows : List Row) : Type 0 w
 -- ---- the flag of a container
 
 -- flags stand in the order of the containers
-flags-at : (c : Call) (k n i : ℕ) → i < n → getD (flagsFrom c k n) i 1 ≡ flagIn c (k + i)
+flags-from : (c : Call) (k n i d : ℕ) → i < n → getD (flagsFrom c k n) i d ≡ flagIn c (k + i)
 unfolding flagsFrom
-flags-at c k zero i h = absurd (omega arith)
-flags-at c k (suc n) zero h = ap (flagIn c) (sym (add-zero k))
-flags-at c k (suc n) (suc i) h = flags-at c (k + 1) n i (omega arith) ∙ ap (flagIn c) (omega arith)
+flags-from c k zero i d h = absurd (omega arith)
+flags-from c k (suc n) zero d h = ap (flagIn c) (sym (add-zero k))
+flags-from c k (suc n) (suc i) d h = flags-from c (k + 1) n i d (omega arith) ∙ ap (flagIn c) (omega arith)
 
-same-flags : (n : ℕ) (fs gs : List ℕ) → unlessFault n (flags fs) ≡ flags gs → fs ≡ gs
-same-flags zero fs gs e = cc
-same-flags (suc n) fs gs e = cc
+same-flags : (n : ℕ) (fs gs : List ℕ) → unlessFault n (flags fs) ≡ flags gs → (n ≡ 0) × (fs ≡ gs)
+same-flags zero fs gs e = (refl, cc)
+same-flags (suc n) fs gs e = (cc, cc)
+
+-- a call that gives flags has no fault, and each container's flag stands at its number
+pub flags-say : (c : Call) (fs : List ℕ) (i d : ℕ) → pruning c ≡ flags fs → i < c .containers → (pruneFault c ≡ 0) × (flagIn c i ≡ getD fs i d)
+unfolding pruning
+flags-say c fs i d e h =
+    let q = same-flags (pruneFault c) (flagsFrom c 0 (c .containers)) fs e in
+    (q .0, ap (flagIn c) (sym (zero-add i)) ∙ (sym (flags-from c 0 (c .containers) i d h) ∙ ap (λ l. getD l i d) (q .1)))
 
 false-is : (t : Truth) → isFalse t ≡ true → t ≡ False
 false-is False e = refl
@@ -146,19 +153,19 @@ answers-sound answers (g ∷ gs) at rows r small fit i keep d =
 
 module _ (a : Asked) (b : Blocks) (taken-call : faultOf a ≡ 0) where
   -- an accepted call's outcome is its outputs
-  accepted-writes : outcomeOf a ≡ outputs (a .limit) (a .schema) (askedFor a)
+  pub accepted-writes : outcomeOf a ≡ outputs (a .limit) (a .schema) (askedFor a)
   unfolding rewriting
   accepted-writes = rw taken-call
 
-  written : Call
+  unfoldable pub written : Call
   written = callOf (a .schema) (outputs (a .limit) (a .schema) (askedFor a)) b
 
-  list-back : listIn written ≡ statistics (a .limit) (a .schema) (askedFor a)
+  pub list-back : listIn written ≡ statistics (a .limit) (a .schema) (askedFor a)
   unfolding written
   list-back = call-list (a .schema) (a .predicate) (a .pool) (a .limit) (a .rooms) taken-call
 
   -- pruning reads the table that rewriting wrote
-  table-back : tableIn written ≡ rewritten (a .limit) (a .schema) (askedFor a)
+  pub table-back : tableIn written ≡ rewritten (a .limit) (a .schema) (askedFor a)
   unfolding written
   table-back =
       ap (λ l. tableAt l (written .pool) (wordsOf (written .table)) maxTableDepth 0 .table) list-back
@@ -192,13 +199,10 @@ pub drops-no-match : (a : Asked) (b : Blocks) (fs : List ℕ) → faultOf a ≡ 
     → (i : ℕ) → i < b .containers → getD fs i 1 ≡ 0
     → (rows : List Row) → Fit (callOf (a .schema) (outcomeOf a) b) (askedFor a) i rows
     → (r : Row) → In r rows → meaning r (askedFor a) ≡ True → ⊥
-unfolding pruning written
+unfolding written
 drops-no-match a b fs t e i h z rows =
     subst (λ o. pruning (callOf (a .schema) o b) ≡ flags fs → Fit (callOf (a .schema) o b) (askedFor a) i rows
     → (r : Row) → In r rows → meaning r (askedFor a) ≡ True → ⊥)
     (sym (accepted-writes a b t))
-    (λ e fit r here true-of.
-    let c = written a b t in
-    let q = same-flags (pruneFault c) (flagsFrom c 0 (b .containers)) fs e in
-    written-sound a b t i rows fit (ap (flagIn c) (sym (zero-add i)) ∙ (sym (flags-at c 0 (b .containers) i h) ∙ (ap (λ l. getD l i 1) q ∙ z))) r here true-of)
+    (λ e fit r here true-of. written-sound a b t i rows fit (flags-say (written a b t) fs i 1 e h .1 ∙ z) r here true-of)
     e

@@ -4,3 +4,4 @@ pub mod Cells
 pub mod Evaluating
 pub mod RoundTrip
 pub mod Writes
+pub mod GridLaws

@@ -2,12 +2,12 @@
 use mathlib.Core.Path.{_≡_, refl}
 use mathlib.Core.Bool.{Bool, true, false, cond, _&&_}
 use mathlib.Core.List.{List}
-use Prim.Native.Nat.{ℕ, _%_, _≤_}
+use Prim.Native.Nat.{ℕ, _/_, _%_, _≤_}
 use native.Mathlib.Omega.{arith}
 use lib.ListN.{length}
 use lib.Dec.{eqb, leb}
 use borrow.Author.Tests.{leb-true, eqb-true}
-use Rattle.limits.specs.Limits.{maxColumns, maxListLimit, maxPoolBytes, maxTableDepth, tableRoom, tablePoolRoom, statisticsRoom, guaranteesRoom, badSchema, badLimit, noRoom, malformed}
+use Rattle.limits.specs.Limits.{maxColumns, maxListLimit, maxPoolBytes, maxTableDepth, tableRoom, tablePoolRoom, statisticsRoom, guaranteesRoom, maxContainers, badSchema, badLimit, noRoom, malformed, badContainers, badTable, badGrid, badAnswers}
 use Rattle.words.specs.Tests.{and-both}
 use Rattle.words.specs.Word.{wordsOf, bytesOf}
 use Rattle.words.specs.WordLaws.{length-bytes}
@@ -27,7 +27,9 @@ use Rattle.guarantees.specs.Guarantees.{guarantees, guaranteeWords}
 use Rattle.guarantees.specs.Bounds.{guarantees-most, guarantees-columns, guarantees-small}
 use Rattle.pruning.specs.TableReading.{tableAt}
 use Rattle.pruning.specs.TableChecking.{checkedTable}
+use Rattle.pruning.specs.Cells.{answersFine}
 use Rattle.pruning.specs.Writes.{Bounded, statistics-back, read-back, written-checked}
+use Rattle.spill.specs.Prune.{Call, gridFine, pruneFault}
 use Rattle.spill.specs.Rewrite.{typesFine, schemaFine, Rooms, roomy, rewriteFault, predicateOf}
 
 -- ---- the call
@@ -76,6 +78,39 @@ taken schema predicate pool limit rooms e =
       guarantees = leb-true _ _ (g .1);
       words = eqb-true _ _ (d .0);
       whole = whole schema pool (wordsOf predicate) (d .1);
+    }
+
+-- what a pruning call with no fault says
+pub record PruneTaken (c : Call) : Type 0 where
+  pub schema : schemaFine (c .schema) ≡ true
+  pub few : c .containers ≤ maxContainers
+  pub room : c .containers ≤ c .room
+  pub checked : checkedTable (c .schema) (c .table) (c .pool) (c .statistics) (c .guarantees) ≡ true
+  pub grid : gridFine c ≡ true
+  pub answers : answersFine (c .containers) (length (c .guarantees) / 8) (c .answers) ≡ true
+
+pub prune-taken : (c : Call) → pruneFault c ≡ 0 → PruneTaken c
+unfolding pruneFault
+prune-taken c e =
+    let table : Bool = checkedTable (c .schema) (c .table) (c .pool) (c .statistics) (c .guarantees) in
+    let answers : Bool = answersFine (c .containers) (length (c .guarantees) / 8) (c .answers) in
+    let f4 : ℕ = cond answers 0 badAnswers in
+    let f3 : ℕ = cond (gridFine c) f4 badGrid in
+    let f2 : ℕ = cond table f3 badTable in
+    let f1 : ℕ = cond (leb (c .containers) maxContainers && leb (c .containers) (c .room)) f2 badContainers in
+    let p = passed (schemaFine (c .schema)) f1 badSchema (omega arith) e in
+    let q = passed (leb (c .containers) maxContainers && leb (c .containers) (c .room)) f2 badContainers (omega arith) (p .1) in
+    let r = passed table f3 badTable (omega arith) (q .1) in
+    let s = passed (gridFine c) f4 badGrid (omega arith) (r .1) in
+    let t = passed answers 0 badAnswers (omega arith) (s .1) in
+    let n = and-both (leb (c .containers) maxContainers) (leb (c .containers) (c .room)) (q .0) in
+    record {
+      schema = p .0;
+      few = leb-true _ _ (n .0);
+      room = leb-true _ _ (n .1);
+      checked = r .0;
+      grid = s .0;
+      answers = t .0;
     }
 
 -- ---- what is written

@@ -9,7 +9,7 @@ use Prim.Native.Nat.{ℕ, zero, suc, _+_, _-_, _<_, _≤_}
 use native.Mathlib.Omega.{arith}
 use lib.ListN.{length, getD}
 use lib.Dec.{eqb, leb}
-use lib.IntN.{ℤ, pos}
+use lib.IntN.{ℤ, pos, negsuc}
 use lib.Signed.{leZ}
 use borrow.Author.Tests.{eqb-true, eqb-false, leb-true, leb-false, le-leb, not-true, not-false}
 use Rattle.operators.specs.declared.Operator.{Operator}
@@ -17,6 +17,7 @@ use Rattle.operators.specs.declared.Operator.the-variants.{Equal, NotEqual, Bel
 use Rattle.kleene.specs.declared.Truth.{Truth}
 use Rattle.kleene.specs.declared.Truth.the-variants.{False, Unknown, True}
 use Rattle.kleene.specs.Truths.{truthOf, kleeneAnd, kleeneOr}
+use Rattle.literals.specs.Signed.{Fits64}
 use Rattle.literals.specs.Literals.{Value, null, int}
 use Rattle.orders.specs.Order.{compares, compares-test}
 use Rattle.orders.specs.Forms.{form, form-met, Met}
@@ -128,6 +129,8 @@ pub record Summary (c : Column) (cells : Cells) : Type 0 where
   pub fewer : blanks ≤ rows
   pub some-rows : 0 < rows
   pub ordered : leZ least greatest ≡ true
+  pub least-fits : Fits64 least
+  pub greatest-fits : Fits64 greatest
   pub others : (d : Column) → (d .0 ≡ c .0 → ⊥) → (cells (Least d) ≡ null) × (cells (Greatest d) ≡ null) × (cells (Blanks d) ≡ null)
 
 -- the bounds that an operator's form asks for are there
@@ -141,13 +144,25 @@ Asked AtLeast c cells lo hi = cells (Greatest c) ≡ int hi
 Asked Distinct c cells lo hi = (cells (Least c) ≡ int lo) × (cells (Greatest c) ≡ int hi)
 Asked NotDistinct c cells lo hi = (cells (Least c) ≡ int lo) × (cells (Greatest c) ≡ int hi)
 
+-- a blank, or an integer of 64 bits in the column
+abbrev pub Held : Column → Row → Column → Type 0
+Held c r d = (valueIn r d ≡ null) ⊎ ((d .0 ≡ c .0) × ((z : ℤ) × (valueIn r d ≡ int z) × Fits64 z))
+
 -- some rows fit the cells, and one of them satisfies the comparison
 pub record Match (c : Column) (cells : Cells) (o : Operator) (k : Value) : Type 0 where
   pub rows : List Row
   pub fit : FitCells cells rows
+  pub held : (r : Row) → In r rows → (d : Column) → Held c r d
   pub row : Row
   pub in-rows : In row rows
   pub true-of : compared o (valueIn row c) k ≡ True
+
+-- what lies between integers of 64 bits has 64 bits
+between : (a z b : ℤ) → leZ a z ≡ true → leZ z b ≡ true → Fits64 a → Fits64 b → Fits64 z
+between a (pos n) (pos m) h k f g = let q = leb-true n m k in omega arith
+between a (pos n) (negsuc m) h k f g = absurd (true≢false (sym k))
+between (negsuc m) (negsuc n) b h k f g = let q = leb-true n m h in omega arith
+between (pos m) (negsuc n) b h k f g = absurd (true≢false (sym h))
 
 at-most : (a b : ℤ) → leZ a b ≡ true → compared AtMost (int a) (int b) ≡ True
 at-most a b e = ap truthOf (compares-test numbers AtMost a b ∙ e)
@@ -214,6 +229,21 @@ module _ (c : Column) (cells : Cells) (s : Summary c cells) where
               by-column (λ d. (r : Row) → In r fitting → Bounds (valueIn r d) (cells (Greatest d))) fit-greatest (λ d h r i. absent-high (valueIn r d) (cells (Greatest d)) (s .others d h .1));
         }
 
+    holds-held : (r : Row) → In r fitting → (d : Column) → Held c r d
+    unfolding fitting
+    holds-held r i d = ⊎-elim (λ e. inl (blank e (eqb (d .0) (c .0)) refl)) (λ e. value e (eqb (d .0) (c .0)) refl) (row-is (c .0) (int z) (s .blanks) (s .rows - s .blanks) r i)
+      where
+        blank : r ≡ filled (c .0) null → (b : Bool) → eqb (d .0) (c .0) ≡ b → valueIn r d ≡ null
+        blank e true q = rw (e, eqb-true (d .0) (c .0) q) (filled-at (c .0) null)
+        blank e false q = rw e (filled-off (c .0) (d .0) null (eqb-false (d .0) (c .0) q))
+
+        value : r ≡ filled (c .0) (int z) → (b : Bool) → eqb (d .0) (c .0) ≡ b
+            → (valueIn r d ≡ null) ⊎ ((d .0 ≡ c .0) × ((z : ℤ) × (valueIn r d ≡ int z) × Fits64 z))
+        value e true q =
+            inr
+            (eqb-true (d .0) (c .0) q, (z, rw (e, eqb-true (d .0) (c .0) q) (filled-at (c .0) (int z)), between (s .least) z (s .greatest) low high (s .least-fits) (s .greatest-fits)))
+        value e false q = inl (rw e (filled-off (c .0) (d .0) (int z) (eqb-false (d .0) (c .0) q)))
+
     -- a row with the value, where not every row is blank
     by-value : (o : Operator) (k : Value) → s .blanks < s .rows → compared o (int z) k ≡ True → Match c cells o k
     unfolding fitting
@@ -221,6 +251,7 @@ module _ (c : Column) (cells : Cells) (s : Summary c cells) where
         record {
           rows = fitting;
           fit = fits;
+          held = holds-held;
           row = filled (c .0) (int z);
           in-rows = has-value (c .0) (int z) (s .blanks) (s .rows - s .blanks) (omega arith);
           true-of = rw (filled-at (c .0) (int z)) e;
@@ -233,6 +264,7 @@ module _ (c : Column) (cells : Cells) (s : Summary c cells) where
         record {
           rows = fitting;
           fit = fits;
+          held = holds-held;
           row = filled (c .0) null;
           in-rows = has-blank (c .0) (int z) (s .blanks) (s .rows - s .blanks) h;
           true-of = rw (filled-at (c .0) null) e;
