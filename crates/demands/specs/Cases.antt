@@ -17,7 +17,8 @@ use Rattle.text.specs.Pattern.{prefixOf, restOf}
 use Rattle.orders.specs.Order.{orderBy}
 use Rattle.predicate.specs.Nodes.{nodeOf}
 use Rattle.predicate.specs.Predicates.{valuesAt, predicateAt}
-use Rattle.predicate.specs.Checking.{formed, checkLiteral, checkLiterals, nodeFault, checkFrom, predicateFault}
+use Rattle.predicate.specs.Checking.{typesFine, formed, checkLiteral, checkLiterals, nodeFault, checkFrom, predicateFault}
+use Rattle.predicate.specs.Calls.{Rooms, rewriteFault}
 use Rattle.statistics.specs.Statistics.{statisticOf, statisticsOf, placeOf, added, addedAll}
 use Rattle.table.specs.Comparisons.{minuses, turned}
 use Rattle.table.specs.Rewriting.{membersTable, membersLists, rewritten, lists}
@@ -28,7 +29,7 @@ use Rattle.pruning.specs.TableReading.{tableNodeOf, tableAt}
 use Rattle.pruning.specs.TableChecking.{statisticFine, statisticsFine, guaranteesFine, tableFormed, checkTableFrom, tableFine, checkedTable}
 use Rattle.pruning.specs.Cells.{rowFine, rowsFine, cellOf, upToTwo}
 use Rattle.pruning.specs.Evaluating.{answersDrop}
-use Rattle.spill.specs.Rewrite.{Rooms, Outcome, writes, typesFine, rewriteFault, rewriting, answerWord, tableOut, poolOut, statisticsOut, guaranteesOut}
+use Rattle.spill.specs.Rewrite.{Outcome, writes, rewriting, answerWord, tableOut, poolOut, statisticsOut, guaranteesOut}
 use Rattle.spill.specs.Prune.{Call, Pruned, flags, pruneFault, flagIn, flagsFrom, pruning}
 
 -- ---- one case: what rewriting is given, and what it or pruning by its outputs then gives

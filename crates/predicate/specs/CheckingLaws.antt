@@ -14,10 +14,11 @@ use Rattle.words.specs.Tests.{and-both, or-other}
 use Rattle.literals.specs.Literals.{lengthOf, plain, suits, literalOf, textType, truthType}
 use Rattle.predicate.specs.Nodes.{kindOf, operatorField, columnField, flipsOf, firstField, countOf, zeroField, nodeOf}
 use Rattle.predicate.specs.Predicates.{nodeAt}
-use Rattle.predicate.specs.Checking.{Shape, shapeOf, unusedZero, formed, limited, typeIn, flippable, columned, wordFault, literalLimited, patterned, literalFault, missing, thenOn, passes, afterNode, afterLiteral, wordHere, checkLiteral, checkLiterals, checkBehind, nodeFault, checkFrom, finish, atStart, predicateFault}
+use Rattle.predicate.specs.Checking.{shapeOf, unusedZero, formed, limited, typeIn, flippable, columned, wordFault, literalLimited, patterned, literalFault, missing, thenOn, passes, afterNode, afterLiteral, wordHere, checkLiteral, checkLiterals, checkBehind, nodeFault, checkFrom, finish, atStart, predicateFault}
 use Rattle.predicate.specs.declared.Column.{Column}
 use Rattle.predicate.specs.declared.Node.{Node}
 use Rattle.predicate.specs.declared.Node.the-variants.{Constant, Join, Not, TruthColumn, IsNull, IsNotNull, Comparison, List as InList, Like}
+use Rattle.predicate.specs.declared.Shape.{Shape}
 use Rattle.predicate.specs.declared.Progress.{Progress}
 use Rattle.predicate.specs.declared.Checked.{Checked}
 use Rattle.predicate.specs.declared.Checked.the-variants.{Refused, Passed}

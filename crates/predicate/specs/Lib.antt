@@ -7,3 +7,4 @@ pub mod Rows
 pub mod CheckingLaws
 pub mod Accepted
 pub mod Refusals
+pub mod Calls

@@ -30,6 +30,15 @@ pub enum Node {
     Like(bool, Column, Literal),
 }
 
+// What a kind of node has: so many operators, from 0, and which of the fields that only some kinds have.
+pub struct Shape {
+    pub operators: u8,
+    pub column: bool,
+    pub flips: bool,
+    pub first: bool,
+    pub count: bool,
+}
+
 // How far checking has come: the next word's place, and the nodes, list literals and literal bytes so far.
 pub struct Progress {
     pub place: usize,
