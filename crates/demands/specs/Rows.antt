@@ -33,7 +33,8 @@ use Rattle.limits.specs.Limits.{maxTableDepth}
 use Rattle.pruning.specs.TableReading.{tableAt}
 use Rattle.pruning.specs.Cells.{cellOf}
 use Rattle.pruning.specs.Evaluating.{isFalse, answersDrop, flagOf}
-use Rattle.spill.specs.Rewrite.{Rooms, Outcome, refuses, writes, rewriteFault, rewriting, outputs, predicateOf, tableOut, poolOut, statisticsOut, guaranteesOut}
+use Rattle.predicate.specs.Calls.{Rooms, rewriteFault}
+use Rattle.spill.specs.Rewrite.{Outcome, refuses, writes, rewriting, outputs, predicateOf, tableOut, poolOut, statisticsOut, guaranteesOut}
 use Rattle.spill.specs.Prune.{Call, Pruned, flags, pruning, pruneFault, flagIn, flagsFrom, listIn, tableIn, unlessFault}
 use Rattle.spill.specs.Bounds.{taken, call-bounded, call-list, call-table}
 

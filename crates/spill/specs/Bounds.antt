@@ -12,7 +12,6 @@ use Rattle.words.specs.Tests.{and-both}
 use Rattle.words.specs.Word.{wordsOf, bytesOf}
 use Rattle.words.specs.WordLaws.{length-bytes}
 use Rattle.predicate.specs.Predicates.{Predicate}
-use Rattle.predicate.specs.Checking.{predicateFault}
 use Rattle.predicate.specs.Accepted.{Whole, whole}
 use Rattle.statistics.specs.declared.Statistic.{Statistic}
 use Rattle.statistics.specs.Statistics.{statisticWords, statisticsOf}
@@ -30,7 +29,9 @@ use Rattle.pruning.specs.TableChecking.{checkedTable}
 use Rattle.pruning.specs.Cells.{answersFine}
 use Rattle.pruning.specs.Writes.{Bounded, statistics-back, read-back, written-checked}
 use Rattle.spill.specs.Prune.{Call, gridFine, pruneFault}
-use Rattle.spill.specs.Rewrite.{typesFine, schemaFine, Rooms, roomy, rewriteFault, predicateOf}
+use Rattle.predicate.specs.Checking.{typesFine, schemaFine, predicateFault}
+use Rattle.predicate.specs.Calls.{Rooms, roomy, rewriteFault}
+use Rattle.spill.specs.Rewrite.{predicateOf}
 
 -- ---- the call
 
