@@ -36,61 +36,14 @@ use Rattle.pruning.specs.Evaluating.{isFalse, answersDrop, flagOf}
 use Rattle.predicate.specs.Calls.{Rooms, rewriteFault}
 use Rattle.spill.specs.Rewrite.{Outcome, refuses, writes, rewriting, outputs, predicateOf, tableOut, poolOut, statisticsOut, guaranteesOut}
 use Rattle.spill.specs.Prune.{Call, Pruned, flags, pruning, pruneFault, flagIn, flagsFrom, listIn, tableIn, unlessFault}
+use Rattle.demands.specs.Calls.{Asked, faultOf, outcomeOf, askedFor, Blocks, callOf, cellsIn}
 use Rattle.spill.specs.Bounds.{taken, call-bounded, call-list, call-table}
-
--- ---- the two calls
-
--- what rewriting is given
-pub record Asked : Type 0 where
-  pub schema : List ℕ
-  pub predicate : List ℕ
-  pub pool : List ℕ
-  pub limit : ℕ
-  pub rooms : Rooms
-
-abbrev pub faultOf : Asked → ℕ
-faultOf a = rewriteFault (a .schema) (a .predicate) (a .pool) (a .limit) (a .rooms)
-
-abbrev pub outcomeOf : Asked → Outcome
-outcomeOf a = rewriting (a .schema) (a .predicate) (a .pool) (a .limit) (a .rooms)
-
--- the predicate asked
-abbrev pub askedFor : Asked → Predicate
-askedFor a = predicateOf (a .predicate) (a .pool)
-
--- what pruning is given besides
-pub record Blocks : Type 0 where
-  pub containers : ℕ
-  pub grid : List ℕ
-  pub cells : List ℕ
-  pub answers : List ℕ
-  pub room : ℕ
-
--- pruning by an outcome of rewriting
-abbrev pub callOf : List ℕ → Outcome → Blocks → Call
-callOf schema o b =
-    record {
-      schema = schema;
-      table = tableOut o;
-      pool = poolOut o;
-      statistics = statisticsOut o;
-      guarantees = guaranteesOut o;
-      containers = b .containers;
-      grid = b .grid;
-      cells = b .cells;
-      answers = b .answers;
-      room = b .room;
-    }
 
 -- ---- rows that fit
 
 abbrev pub FitAnswers : List ℕ → List Guarantee → ℕ → List Row → Type 0
 FitAnswers answers [] at rows = Unit {0}
 FitAnswers answers (g ∷ gs) at rows = FitAnswer g (getD answers at 0) rows × FitAnswers answers gs (at + 1) rows
-
--- the cells of a container of a call
-abbrev pub cellsIn : Call → ℕ → Cells
-cellsIn c i = cellOf (c .schema) (c .cells) (listIn c) (wordsOf (c .grid)) i
 
 -- rows of the schema that fit a container's cells and answers
 pub record Fit (c : Call) (p : Predicate) (i : ℕ) (rows : List Row) : Type 0 where

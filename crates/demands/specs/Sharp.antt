@@ -42,7 +42,8 @@ use Rattle.pruning.specs.GridLaws.{IntCell, CountCell, cell-by, listed-fine, un
 use Rattle.pruning.specs.Evaluating.{answersDrop, flagOf}
 use Rattle.spill.specs.Prune.{Call, flags, pruning, pruneFault, flagIn, listIn, tableIn}
 use Rattle.spill.specs.Bounds.{prune-taken}
-use Rattle.demands.specs.Rows.{Asked, faultOf, outcomeOf, askedFor, Blocks, callOf, cellsIn, Fit, FitAnswers, flags-say, accepted-writes, written, list-back, table-back}
+use Rattle.demands.specs.Calls.{Asked, faultOf, outcomeOf, askedFor, Blocks, callOf, cellsIn}
+use Rattle.demands.specs.Rows.{Fit, FitAnswers, flags-say, accepted-writes, written, list-back, table-back}
 use Rattle.table.specs.Sharpness.{Summary, Match, Held, sharp, sharp-distinct, sharp-not-distinct}
 
 -- ---- one integer comparison, column first, no flips
