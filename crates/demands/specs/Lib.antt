@@ -2,3 +2,4 @@ pub mod Calls
 pub mod Cases
 pub mod Rows
 pub mod Sharp
+pub mod Needed
