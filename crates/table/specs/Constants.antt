@@ -70,7 +70,7 @@ joined-root j l r (inr s) (inr t) = both-solid j l r s t
 
 -- ---- leaves
 
-form-solid : (c : Column) (o : Operator) (v : Value) → Solid (comparisonForm c o v)
+pub form-solid : (c : Column) (o : Operator) (v : Value) → Solid (comparisonForm c o v)
 form-solid c Equal v = (tt, (tt, tt))
 form-solid c NotEqual v = (tt, (tt, tt))
 form-solid c Below v = (tt, tt)

@@ -15,3 +15,4 @@ pub mod Bounds
 pub mod Proper
 pub mod Soundness
 pub mod Sharpness
+pub mod Nests
