@@ -31,6 +31,12 @@ typesFine (b ∷ bs) = leb integerType b && (leb b truthType && typesFine bs)
 abbrev pub schemaFine : List ℕ → Bool
 schemaFine schema = leb (length schema) maxColumns && typesFine schema
 
+-- ---- a word
+
+-- 4 before 5 before 6
+abbrev pub firstFault : Bool → Bool → Bool → ℕ
+firstFault formed limited fitting = cond formed (cond limited (cond fitting 0 misfit) overLimit) malformed
+
 -- ---- a node's word
 
 abbrev pub bare : ℕ → Shape
@@ -97,7 +103,7 @@ columned schema (Like b c l) = eqb (typeIn schema (c .0)) textType
 -- the fault of the node n whose word w stands at the next place
 abbrev pub wordFault : List ℕ → ℕ → Progress → ℕ → Node → ℕ
 wordFault schema depth s w n =
-    cond (formed w) (cond (limited depth s w) (cond (columned schema n) 0 misfit) overLimit) malformed
+    firstFault (formed w) (limited depth s w) (columned schema n)
 
 -- ---- a literal's word
 
@@ -113,7 +119,7 @@ patterned pattern pool w =
 -- the fault of a literal for a column of this type; pattern: it belongs to a LIKE
 abbrev pub literalFault : List ℕ → Bool → ℕ → Progress → ℕ → ℕ
 literalFault pool pattern type s w =
-    cond (plain w) (cond (literalLimited s w) (cond (suits pool type w && patterned pattern pool w) 0 misfit) overLimit) malformed
+    firstFault (plain w) (literalLimited s w) (suits pool type w && patterned pattern pool w)
 
 -- ---- words in order
 

@@ -2,6 +2,7 @@ pub mod Nodes
 pub mod Predicates
 pub mod Measures
 pub mod Checking
+pub mod KindLaws
 pub mod Meaning
 pub mod Rows
 pub mod CheckingLaws

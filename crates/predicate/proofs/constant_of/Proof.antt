@@ -3,13 +3,13 @@ use borrow.Author.Needs.{needs}
 use mathlib.Core.Path.{sym}
 use Prim.Native.Nat.{zero-le}
 use Rattle.words.specs.Arms.{next}
-use Rattle.predicate.proofs.Laws.{constant-rest}
+use Rattle.predicate.specs.KindLaws.{constant-null}
 use Rattle.predicate.proofs.constant_of.Statement.{statement}
 use Rattle.predicate.proofs.constant_of.Tie as tie
 
 returns-3 : tie.Need-returns-3
 returns-3 c =
-    sym (constant-rest _ (next (next zero-le (c .match .rest .0 .1)) (c .match .rest .1)))
+    sym (constant-null _ (next (next zero-le (c .match .rest .0 .1)) (c .match .rest .1)))
 
 pub constant-of-spec : {M : Type 1} → statement M
 constant-of-spec =

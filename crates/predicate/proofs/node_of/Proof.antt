@@ -4,7 +4,7 @@ use mathlib.Core.Path.{_≡_, sym, _∙_}
 use Prim.Native.Nat.{zero-le}
 use Rattle.words.specs.Arms.{next}
 use Rattle.predicate.specs.Nodes.{nodeOf, kindOf}
-use Rattle.predicate.proofs.Laws.{node-unknown}
+use Rattle.predicate.specs.KindLaws.{node-unknown}
 use Rattle.predicate.proofs.node_of.Statement.{statement}
 use Rattle.predicate.proofs.node_of.Tie as tie
 
