@@ -5,3 +5,5 @@ pub mod Evaluating
 pub mod RoundTrip
 pub mod Writes
 pub mod GridLaws
+pub mod CheckingLaws
+pub mod NodeLaws
