@@ -1,3 +1,4 @@
+-- Each operator by its own clause. Assumes nothing.
 use borrow.Author.Needs.{needs}
 use Rattle.promising.proofs.of_comparison.Statement.{statement}
 use Rattle.promising.proofs.of_comparison.Tie as tie

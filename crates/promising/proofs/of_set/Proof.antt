@@ -1,3 +1,4 @@
+-- By the two tests: an unflipped column, a set with a literal. Assumes nothing.
 use Rattle.promising.proofs.Laws.{set-flipped}
 use Rattle.promising.proofs.of_set.Statement.{statement}
 use Rattle.promising.proofs.of_set.Tie as tie

@@ -1,3 +1,4 @@
+-- Each node by its own clause. Assumes nothing.
 use borrow.Author.Needs.{needs}
 use mathlib.Core.Path.{_≡_, sym, _∙_}
 use Rattle.promising.proofs.promise_at.Statement.{statement}
