@@ -8,7 +8,10 @@ use native.Mathlib.Omega.{arith}
 use lib.ListN.{length, getD, take, drop, length-drop, drop-of-length-le}
 use lib.Seq.{take-all, take-nil}
 use borrow.Author.Tests.{le-leb, lt-leb}
-use Rattle.words.specs.Word.{rangeOf}
+use Rattle.limits.specs.Limits.{maxColumns, statisticsRoom}
+use Rattle.words.specs.Word.{bytesOf, rangeOf}
+use Rattle.words.specs.WordLaws.{bytes-none}
+use Rattle.words.specs.Stores.{written}
 use Rattle.words.specs.declared.Range.{Range}
 use Rattle.operators.specs.declared.Operator.{Operator}
 use Rattle.operators.specs.declared.Operator.the-variants.{Equal}
@@ -18,13 +21,17 @@ use Rattle.increment.specs.Outcome.{endOf, until-some, absent-none}
 use Rattle.increment.specs.declared.End.{End}
 use Rattle.increment.specs.declared.End.the-variants.{Until, Absent}
 use Rattle.predicate.specs.Checking.{typeIn}
-use Rattle.predicate.specs.Predicates.{valuesAt, length-values}
+use Rattle.predicate.specs.Predicates.{Predicate, valuesAt, length-values}
+use Rattle.predicate.specs.Accepted.{Fine, fine-columns}
 use Rattle.predicate.specs.declared.Column.{Column}
 use Rattle.statistics.specs.declared.Statistic.{Statistic}
+use Rattle.statistics.specs.Statistics.{statisticWords, addedAll}
+use Rattle.statistics.specs.ListLaws.{Columns, columns-wider}
 use Rattle.table.specs.Comparisons.{turned, comparisonLists, patternUpper, likeLists}
-use Rattle.table.specs.Rewriting.{columnLists, listOperator, comparisonStatistics, membersLists, listLists}
+use Rattle.table.specs.Rewriting.{columnLists, listOperator, comparisonStatistics, membersLists, listLists, lists}
+use Rattle.table.specs.Naming.{listed-columns}
 use Rattle.listing.specs.Listing.{Room, Grown, isBounded}
-use Rattle.listing.specs.ListingLaws.{room-first, room-next, grown-then, grown-none, like-listed}
+use Rattle.listing.specs.ListingLaws.{room-first, room-next, grown-then, grown-none, grown-front, room-all, like-listed}
 use Rattle.turning.specs.Turns.{Turns}
 use Rattle.turning.specs.declared.Turned.{Turned}
 use Rattle.turning.specs.declared.Turned.the-variants.{Against, Unhandled}
@@ -129,3 +136,14 @@ module _ (pool : List ℕ) (r : Range) where
 
   pub part-whole : take (r .at + r .len - r .at) (drop (r .at) pool) ≡ rangeOf pool r
   part-whole = let e : r .at + r .len - r .at ≡ r .len = omega arith in rw e
+
+-- ---- all that a predicate asks for
+
+pub all-columns : (limit : ℕ) (schema : List ℕ) (p : Predicate) → length schema ≤ maxColumns → Fine schema p → Columns maxColumns (lists limit schema p)
+all-columns limit schema p h f =
+    columns-wider (length schema) maxColumns (lists limit schema p) h
+    (listed-columns (length schema) schema limit p (fine-columns schema p f))
+
+pub all-listed : (ss : List Statistic) (old new : List ℕ) (r : ℕ) → Columns maxColumns ss → statisticsRoom ≤ length old → Grown ss 0 old new r
+    → (r ≡ length (addedAll [] ss)) × (new ≡ written (bytesOf (statisticWords (addedAll [] ss))) old)
+all-listed ss old new r c h g = grown-front ss [] 0 old new r refl tt (sym bytes-none) (room-all ss old c h) g

@@ -34,9 +34,11 @@ list-turned-requires c κs =
 loop-again : tie.Need-loop-again Inv-loop μ-loop
 loop-again c =
     let a = c .before .before .before .before .before .before .before .before .before .before .before .before .before .args in
-    let g = rw (c .before .before .before .before .before .before .before .before .list-operator .ensures, c .before .before .before .before .literal-of .ensures, c .before .before .before .before .before .word-or-zero .ensures) at (c .before .before .list-turned .ensures) in
-    (search needs, search needs,
-      going-next _ _ _ _ _ _ _ _ (rest-next (now (a .schema)) (now (a .pool)) (wordsOf (now (a .words))) (a .neg) (a .c) (a .flips) (a .k) (a .at) _ (c .before .before .before .before .before .before .loop-test .taken)) (c .before .before .before .before .before .before .before .loop .inv .2) _ _ g)
+    let g = rw (c .before .before .before .before .before .before .before .before .list-operator .ensures, c .before .before .before .before .literal-of .ensures, c .before .before .before .before .before .word-or-zero .ensures) at (c .before .before .list-turned .ensures) in (
+      search needs,
+      search needs,
+      going-next _ _ _ _ _ _ _ _ (rest-next (now (a .schema)) (now (a .pool)) (wordsOf (now (a .words))) (a .neg) (a .c) (a .flips) (a .k) (a .at) _ (c .before .before .before .before .before .before .loop-test .taken)) (c .before .before .before .before .before .before .before .loop .inv .2) _ _ g,
+    )
 
 returns : tie.Need-returns Inv-loop μ-loop
 returns c =
