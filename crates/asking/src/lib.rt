@@ -167,18 +167,11 @@ fn is_bounded(pool: &[u8], l: Literal) -> bool
 }
 
 // Lists what LIKE asks for: as = does where the pattern has an upper bound, else least and greatest; nothing for NOT LIKE.
-pub fn list_like(
-    pool: &[u8],
-    negated: bool,
-    c: Column,
-    l: Literal,
-    list: &mut [u8],
-    n: usize,
-) -> usize
-    requires { ⌜ Pattern (valueOf (now pool) l) × Room (likeLists negated c (valueOf (now pool) l)) n (now list) ⌝ }
-    ensures { λ r. ⌜ Grown (likeLists negated c (valueOf (now (pool .entry)) l)) n (now (list .entry)) (now (list .exit)) r ⌝ }
+pub fn list_like(pool: &[u8], neg: bool, c: Column, l: Literal, list: &mut [u8], n: usize) -> usize
+    requires { ⌜ Pattern (valueOf (now pool) l) × Room (likeLists neg c (valueOf (now pool) l)) n (now list) ⌝ }
+    ensures { λ r. ⌜ Grown (likeLists neg c (valueOf (now (pool .entry)) l)) n (now (list .entry)) (now (list .exit)) r ⌝ }
 {
-    if negated {
+    if neg {
         return n;
     }
     if is_bounded(pool, l) {
@@ -240,17 +233,16 @@ pub fn list_at(
     if depth == 0 {
         return reached(at, n);
     }
+    let d = depth - 1;
     match predicate::node_at(pool, words, at) {
         Node::Constant(_) => reached(at + 1, n),
         Node::Join(_) => {
-            let l = list_at(schema, pool, words, limit, depth - 1, at + 1, list, n);
-            let b = l.next;
-            let m = l.n;
-            list_at(schema, pool, words, limit, depth - 1, b, list, m)
+            let l = list_at(schema, pool, words, limit, d, at + 1, list, n);
+            list_at(schema, pool, words, limit, d, l.next, list, l.n)
         }
         Node::Not => {
-            let m = list_not(pool, words, depth - 1, at + 1, list, n);
-            reached(walking::skip(pool, words, depth - 1, at + 1), m)
+            let m = list_not(pool, words, d, at + 1, list, n);
+            reached(walking::skip(pool, words, d, at + 1), m)
         }
         Node::TruthColumn(c) => reached(at + 1, listing::list_column(list, n, c)),
         Node::IsNull(c) => reached(at + 1, listing::list_blanks(list, n, c)),
@@ -263,7 +255,7 @@ pub fn list_at(
             let m = list_in(schema, pool, words, limit, neg, c, flips, k, at, list, n);
             reached(at + 1 + (k as usize), m)
         }
-        Node::Like(negated, c, l) => reached(at + 2, list_like(pool, negated, c, l, list, n)),
+        Node::Like(neg, c, l) => reached(at + 2, list_like(pool, neg, c, l, list, n)),
     }
 }
 

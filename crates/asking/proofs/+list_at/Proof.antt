@@ -112,7 +112,7 @@ list-at-list-in-requires t c κs =
 list-at-list-like-requires : (t : ℕ) → list-at-lts.Need-list-like-requires (list-at-cs t) (list-at-at t) list-at.Post
 unfolding lists
 list-at-list-like-requires t c κs =
-    let p = rw (read-at t (c .before .before .before .before) (c .before .before .negated .given .1)) at (c .before .before .before .before .before .before .before .before .before .before .pre .1) in
+    let p = rw (read-at t (c .before .before .before .before) (c .before .before .neg2 .given .1)) at (c .before .before .before .before .before .before .before .before .before .before .pre .1) in
     (p .1 .1, p .2)
 
 list-at-returns-2 : (t : ℕ) → list-at-lts.Need-returns-2 (list-at-cs t) (list-at-at t) list-at.Post
@@ -160,7 +160,7 @@ list-at-returns-9 t c =
 list-at-returns-10 : (t : ℕ) → list-at-lts.Need-returns-10 (list-at-cs t) (list-at-at t) list-at.Post
 unfolding lists
 list-at-returns-10 t c =
-    rw (c .reached9 .ensures, read-at t (c .before .before .before .before .before .before .before .before) (c .before .before .before .before .before .before .negated .given .1)) (refl, c .before .before .before .list-like .ensures)
+    rw (c .reached9 .ensures, read-at t (c .before .before .before .before .before .before .before .before) (c .before .before .before .before .before .before .neg2 .given .1)) (refl, c .before .before .before .list-like .ensures)
 
 pub +list-at-spec : {M : Type 1} → statement M
 +list-at-spec =
@@ -169,21 +169,18 @@ pub +list-at-spec : {M : Type 1} → statement M
     list-at.Post
     (λ c κs. search needs)
     (list-at-returns t)
-    (λ c κs. search needs)
-    (λ c. search needs)
     (λ c. search needs)
     (λ c κs. search needs)
     (λ c. search needs)
+    (λ c. search needs)
+    (λ c κs. search needs)
     (λ c. search needs)
     (λ c. search needs)
     (list-at-list-at-requires t)
-    (λ c. search needs)
     (list-at-list-at-requires-2 t)
     (λ c. search needs)
     (λ c. search needs)
-    (λ c. search needs)
     (list-at-list-not-requires t)
-    (λ c. search needs)
     (λ c. search needs)
     (list-at-skip-requires t)
     (λ c κs. search needs)
