@@ -7,7 +7,6 @@ use predicate::Node;
 use turning::Turned;
 use words::Range;
 ghost use mathlib.Core.Path.{_≡_};
-ghost use mathlib.Core.Bool.{false};
 ghost use Prim.Native.Nat.{_+_, _^_, _≤_, _<_};
 ghost use lib.ListN.{length};
 ghost use Rattle.limits.specs.Limits.{maxColumns, maxDepth, maxLiteralBytes, statisticsRoom};

@@ -1,12 +1,14 @@
 -- Where the node was read, the predicate is the node's; then each arm. Assumes nothing.
 use borrow.Author.Needs.{needs}
 use mathlib.Core.Path.{_≡_, refl, sym, _∙_}
+use mathlib.Core.List.{List}
 use Prim.Native.Nat.{ℕ, _<_, _-_, _+_}
 use denote.Ref.{now}
 use Rattle.words.specs.Word.{wordsOf}
-use Rattle.predicate.specs.Predicates.{Predicate, nodePredicate, predicateAt, read-zero, read-node}
+use Rattle.predicate.specs.Predicates.{nodePredicate, predicateAt, read-zero, read-node}
 use Rattle.predicate.specs.declared.Node.{Node}
 use Rattle.walking.specs.Places.{near-first, near-second}
+use Rattle.statistics.specs.declared.Statistic.{Statistic}
 use Rattle.table.specs.Rewriting.{lists}
 use Rattle.listing.specs.ListingLaws.{room-first, room-next, grown-then, grown-none}
 use borrow.Fn.Kinds.{In}
@@ -47,15 +49,17 @@ read-at : (t : ℕ) (c : list-at-lts.After-node-at (list-at-cs t) (list-at-at t)
     ≡ nodePredicate (predicateAt (now (a .pool)) (wordsOf (now (a .words))) (a .depth - 1)) (now (a .pool)) (wordsOf (now (a .words))) (a .at) n
 read-at t c {n} e = read-node _ _ _ _ (c .before .if1 .left) n (sym e ∙ c .node-at .ensures)
 
--- the sides of a join: the first, and the second behind it
-abbrev first : (t : ℕ) → list-at-lts.Start (list-at-cs t) (list-at-at t) list-at.Post → Predicate
-first t s = let a = s .args in predicateAt (now (a .pool)) (wordsOf (now (a .words))) (a .depth - 1) (a .at + 1) .predicate
+-- what the sides of a join ask for: the first, and the second behind it
+abbrev first : (t : ℕ) → list-at-lts.Start (list-at-cs t) (list-at-at t) list-at.Post → List Statistic
+first t s =
+    let a = s .args in
+    lists (a .limit) (now (a .schema)) (predicateAt (now (a .pool)) (wordsOf (now (a .words))) (a .depth - 1) (a .at + 1) .predicate)
 
-abbrev second : (t : ℕ) → list-at-lts.Start (list-at-cs t) (list-at-at t) list-at.Post → Predicate
+abbrev second : (t : ℕ) → list-at-lts.Start (list-at-cs t) (list-at-at t) list-at.Post → List Statistic
 second t s =
     let a = s .args in
     let f = predicateAt (now (a .pool)) (wordsOf (now (a .words))) (a .depth - 1) in
-    f (f (a .at + 1) .next) .predicate
+    lists (a .limit) (now (a .schema)) (f (f (a .at + 1) .next) .predicate)
 
 list-at-returns : (t : ℕ) → list-at-lts.Need-returns (list-at-cs t) (list-at-at t) list-at.Post
 unfolding lists
@@ -65,15 +69,17 @@ list-at-returns t c =
 list-at-list-at-requires : (t : ℕ) → list-at-lts.Need-list-at-requires (list-at-cs t) (list-at-at t) list-at.Post
 unfolding lists
 list-at-list-at-requires t c κs =
-    let p = rw (read-at t (c .before .before .before) (c .before .enum-told2 .given .1)) at (c .before .before .before .before .before .before .before .before .before .pre .1) in
-    (search needs, (near-first (now (c .before .before .before .before .before .before .before .before .before .args .pool)) _ _ _ tt (sym (c .before .enum-told2 .given .1) ∙ c .before .before .before .node-at .ensures), p .1 .0, room-first (lists (c .before .before .before .before .before .before .before .before .before .args .limit) (now (c .before .before .before .before .before .before .before .before .before .args .schema)) (first t (c .before .before .before .before .before .before .before .before .before))) (lists (c .before .before .before .before .before .before .before .before .before .args .limit) (now (c .before .before .before .before .before .before .before .before .before .args .schema)) (second t (c .before .before .before .before .before .before .before .before .before))) _ _ (p .2)))
+    let s = c .before .before .before .before .before .before .before .before .before in
+    let p = rw (read-at t (c .before .before .before) (c .before .enum-told2 .given .1)) at (s .pre .1) in
+    (search needs, (near-first (now (s .args .pool)) _ _ _ tt (sym (c .before .enum-told2 .given .1) ∙ c .before .before .before .node-at .ensures), p .1 .0, room-first (first t s) (second t s) _ _ (p .2)))
 
 list-at-list-at-requires-2 : (t : ℕ) → list-at-lts.Need-list-at-requires-2 (list-at-cs t) (list-at-at t) list-at.Post
 unfolding lists
 list-at-list-at-requires-2 t c κs =
-    let p = rw (read-at t (c .before .before .before .before .before .before .before) (c .before .before .before .before .before .enum-told2 .given .1)) at (c .before .before .before .before .before .before .before .before .before .before .before .before .before .pre .1) in
+    let s = c .before .before .before .before .before .before .before .before .before .before .before .before .before in
+    let p = rw (read-at t (c .before .before .before .before .before .before .before) (c .before .before .before .before .before .enum-told2 .given .1)) at (s .pre .1) in
     let e = c .before .before .before .list-at .ensures in
-    (search needs, rw (e .0) (near-second _ _ _ _ tt (sym (c .before .before .before .before .before .enum-told2 .given .1) ∙ c .before .before .before .before .before .before .before .node-at .ensures) _, p .1 .1, room-next (lists (c .before .before .before .before .before .before .before .before .before .before .before .before .before .args .limit) (now (c .before .before .before .before .before .before .before .before .before .before .before .before .before .args .schema)) (first t (c .before .before .before .before .before .before .before .before .before .before .before .before .before))) (lists (c .before .before .before .before .before .before .before .before .before .before .before .before .before .args .limit) (now (c .before .before .before .before .before .before .before .before .before .before .before .before .before .args .schema)) (second t (c .before .before .before .before .before .before .before .before .before .before .before .before .before))) _ _ _ _ (e .1) (p .2)))
+    (search needs, rw (e .0) (near-second _ _ _ _ tt (sym (c .before .before .before .before .before .enum-told2 .given .1) ∙ c .before .before .before .before .before .before .before .node-at .ensures) _, p .1 .1, room-next (first t s) (second t s) _ _ _ _ (e .1) (p .2)))
 
 list-at-list-not-requires : (t : ℕ) → list-at-lts.Need-list-not-requires (list-at-cs t) (list-at-at t) list-at.Post
 unfolding lists
@@ -123,9 +129,10 @@ list-at-returns-2 t c =
 list-at-returns-3 : (t : ℕ) → list-at-lts.Need-returns-3 (list-at-cs t) (list-at-at t) list-at.Post
 unfolding lists
 list-at-returns-3 t c =
+    let s = c .before .before .before .before .before .before .before .before .before .before .before .before .before .before .before .before in
     let e = c .before .before .before .before .before .before .list-at .ensures in
     let g = rw (e .0) at (c .before .before .list-at2 .ensures) in
-    rw (read-at t (c .before .before .before .before .before .before .before .before .before .before) (c .before .before .before .before .before .before .before .before .enum-told2 .given .1)) (g .0, grown-then (lists (c .before .before .before .before .before .before .before .before .before .before .before .before .before .before .before .before .args .limit) (now (c .before .before .before .before .before .before .before .before .before .before .before .before .before .before .before .before .args .schema)) (first t (c .before .before .before .before .before .before .before .before .before .before .before .before .before .before .before .before))) (lists (c .before .before .before .before .before .before .before .before .before .before .before .before .before .before .before .before .args .limit) (now (c .before .before .before .before .before .before .before .before .before .before .before .before .before .before .before .before .args .schema)) (second t (c .before .before .before .before .before .before .before .before .before .before .before .before .before .before .before .before))) _ _ _ _ (e .1) _ _ (c .before .before .before .before .before .before .before .before .before .before .before .before .before .before .before .before .pre .1 .2 .front) (g .1))
+    rw (read-at t (c .before .before .before .before .before .before .before .before .before .before) (c .before .before .before .before .before .before .before .before .enum-told2 .given .1)) (g .0, grown-then (first t s) (second t s) _ _ _ _ (e .1) _ _ (s .pre .1 .2 .front) (g .1))
 
 list-at-returns-4 : (t : ℕ) → list-at-lts.Need-returns-4 (list-at-cs t) (list-at-at t) list-at.Post
 unfolding lists
