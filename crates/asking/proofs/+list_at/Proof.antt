@@ -16,10 +16,10 @@ use borrow.Fn.PlainCycle.{Measures, is, falls, and}
 use Rattle.asking.proofs.list_at.Reads as list-at
 use Rattle.asking.proofs.list_at.Kinds as list-at-kinds
 use Rattle.asking.proofs.+list_at.Lts-list_at as list-at-lts
-use Rattle.asking.proofs.list_in.Reads as list-in-reads
-use Rattle.asking.proofs.list_like.Reads as list-like-reads
-use Rattle.asking.proofs.list_not.Reads as list-not-reads
-use Rattle.asking.proofs.list_turned.Reads as list-turned-reads
+use Rattle.leaves.proofs.list_in.Reads as list-in-reads
+use Rattle.leaves.proofs.list_like.Reads as list-like-reads
+use Rattle.leaves.proofs.list_not.Reads as list-not-reads
+use Rattle.leaves.proofs.list_turned.Reads as list-turned-reads
 use Rattle.asking.proofs.reached.Reads as reached-reads
 use Rattle.listing.proofs.list_blanks.Reads as list-blanks-reads
 use Rattle.listing.proofs.list_blanks_rows.Reads as list-blanks-rows-reads

@@ -3,9 +3,9 @@ use borrow.Author.Needs.{needs}
 use denote.Ref.{now}
 use Rattle.words.specs.Word.{wordsOf}
 use Rattle.listing.specs.ListingLaws.{grown-none}
-use Rattle.asking.proofs.Laws.{list-within, list-over}
-use Rattle.asking.proofs.list_in.Statement.{statement}
-use Rattle.asking.proofs.list_in.Tie as tie
+use Rattle.leaves.proofs.Laws.{list-within, list-over}
+use Rattle.leaves.proofs.list_in.Statement.{statement}
+use Rattle.leaves.proofs.list_in.Tie as tie
 
 list-members-requires : tie.Need-list-members-requires
 list-members-requires c κs =

@@ -2,9 +2,9 @@
 use borrow.Author.Needs.{needs}
 use mathlib.Core.Path.{sym, _∙_}
 use Rattle.listing.specs.ListingLaws.{grown-none}
-use Rattle.asking.proofs.Laws.{like-bounded, like-unbounded}
-use Rattle.asking.proofs.list_like.Statement.{statement}
-use Rattle.asking.proofs.list_like.Tie as tie
+use Rattle.leaves.proofs.Laws.{like-bounded, like-unbounded}
+use Rattle.leaves.proofs.list_like.Statement.{statement}
+use Rattle.leaves.proofs.list_like.Tie as tie
 
 returns : tie.Need-returns
 returns c =

@@ -2,8 +2,8 @@
 use borrow.Author.Needs.{needs}
 use Prim.Native.Nat.{ℕ}
 use lib.ListN.{List·getD-eq-default}
-use Rattle.asking.proofs.type_in.Statement.{statement}
-use Rattle.asking.proofs.type_in.Tie as tie
+use Rattle.leaves.proofs.type_in.Statement.{statement}
+use Rattle.leaves.proofs.type_in.Tie as tie
 
 returns-2 : tie.Need-returns-2
 returns-2 c =

@@ -1,9 +1,9 @@
 -- Each way the part is the range. Assumes nothing.
 use borrow.Author.Needs.{needs}
 use denote.Ref.{now}
-use Rattle.asking.proofs.Laws.{part-past, part-cut, part-whole}
-use Rattle.asking.proofs.part.Statement.{statement}
-use Rattle.asking.proofs.part.Tie as tie
+use Rattle.leaves.proofs.Laws.{part-past, part-cut, part-whole}
+use Rattle.leaves.proofs.part.Statement.{statement}
+use Rattle.leaves.proofs.part.Tie as tie
 
 returns : tie.Need-returns
 returns c =

@@ -4,9 +4,9 @@ use mathlib.Core.Path.{sym, _∙_}
 use native.Mathlib.Omega.{arith}
 use denote.Ref.{now}
 use Rattle.text.specs.Upper.{upperOf, prefix-length}
-use Rattle.asking.proofs.Laws.{until-bounded, absent-bounded}
-use Rattle.asking.proofs.has_upper.Statement.{statement}
-use Rattle.asking.proofs.has_upper.Tie as tie
+use Rattle.leaves.proofs.Laws.{until-bounded, absent-bounded}
+use Rattle.leaves.proofs.has_upper.Statement.{statement}
+use Rattle.leaves.proofs.has_upper.Tie as tie
 
 upper-bound-requires : tie.Need-upper-bound-requires
 upper-bound-requires c κs =

@@ -1,7 +1,7 @@
 -- A text is the part of the pool. Assumes nothing.
 use borrow.Author.Needs.{needs}
-use Rattle.asking.proofs.is_bounded.Statement.{statement}
-use Rattle.asking.proofs.is_bounded.Tie as tie
+use Rattle.leaves.proofs.is_bounded.Statement.{statement}
+use Rattle.leaves.proofs.is_bounded.Tie as tie
 
 has-upper-requires : tie.Need-has-upper-requires
 has-upper-requires c κs =

@@ -7,8 +7,8 @@ use Rattle.words.specs.Word.{wordsOf}
 use Rattle.predicate.specs.Predicates.{nodePredicate, predicateAt, read-zero, read-node}
 use Rattle.predicate.specs.declared.Node.{Node}
 use Rattle.listing.specs.ListingLaws.{grown-none}
-use Rattle.asking.proofs.list_not.Statement.{statement}
-use Rattle.asking.proofs.list_not.Tie as tie
+use Rattle.leaves.proofs.list_not.Statement.{statement}
+use Rattle.leaves.proofs.list_not.Tie as tie
 
 read-at : (c : tie.After-node-at) {n : Node} → c .node-at .result ≡ n
     → let a = c .before .before .before .before .before .args in

@@ -8,9 +8,9 @@ use denote.Ref.{now}
 use Rattle.words.specs.Word.{wordsOf}
 use Rattle.predicate.specs.Predicates.{valuesAt}
 use Rattle.table.specs.Rewriting.{membersLists}
-use Rattle.asking.proofs.Laws.{restLists, rest-next, rest-none, rest-all, Going, going-start, going-room, going-next, going-end}
-use Rattle.asking.proofs.list_members.Statement.{statement}
-use Rattle.asking.proofs.list_members.Tie as tie
+use Rattle.leaves.proofs.Laws.{restLists, rest-next, rest-none, rest-all, Going, going-start, going-room, going-next, going-end}
+use Rattle.leaves.proofs.list_members.Statement.{statement}
+use Rattle.leaves.proofs.list_members.Tie as tie
 
 abbrev Inv-loop : tie.InvT-loop
 Inv-loop schema pool words neg c flips k at list₀ n o i₀ m₀ list i m =

@@ -2,9 +2,9 @@
 use borrow.Author.Needs.{needs}
 use denote.Ref.{now}
 use Rattle.listing.specs.ListingLaws.{grown-none}
-use Rattle.asking.proofs.Laws.{against-lists, unhandled-lists}
-use Rattle.asking.proofs.list_turned.Statement.{statement}
-use Rattle.asking.proofs.list_turned.Tie as tie
+use Rattle.leaves.proofs.Laws.{against-lists, unhandled-lists}
+use Rattle.leaves.proofs.list_turned.Statement.{statement}
+use Rattle.leaves.proofs.list_turned.Tie as tie
 
 list-comparison-requires : tie.Need-list-comparison-requires
 list-comparison-requires c κs =
