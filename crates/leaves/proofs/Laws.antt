@@ -1,7 +1,7 @@
 -- The members of a list one after the other, a turned comparison, LIKE, and a range as far as its pool goes. Assumes nothing.
 use mathlib.Core.Path.{_≡_, refl, sym, _∙_}
 use mathlib.Core.Bool.{Bool, true, false}
-use mathlib.Core.Option.{Option, some, none}
+use mathlib.Core.Option.{Option}
 use mathlib.Core.List.{List, [], _++_}
 use Prim.Native.Nat.{ℕ, suc, _+_, _-_, _≤_, _<_}
 use native.Mathlib.Omega.{arith}
@@ -15,7 +15,6 @@ use Rattle.operators.specs.declared.Operator.the-variants.{Equal}
 use Rattle.literals.specs.Literals.{Value, valueOf, valueAt}
 use Rattle.literals.specs.declared.Literal.{Literal}
 use Rattle.increment.specs.Outcome.{endOf, until-some, absent-none}
-use Rattle.increment.specs.declared.End.{End}
 use Rattle.increment.specs.declared.End.the-variants.{Until, Absent}
 use Rattle.predicate.specs.Checking.{typeIn}
 use Rattle.predicate.specs.Predicates.{valuesAt, length-values}

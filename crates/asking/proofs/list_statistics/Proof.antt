@@ -1,6 +1,5 @@
 -- From none on, the list is all that the predicate asks for, and has its room. Assumes nothing.
 use borrow.Author.Needs.{needs}
-use mathlib.Core.Path.{_≡_, sym, _∙_}
 use denote.Ref.{now}
 use Rattle.limits.specs.Limits.{maxDepth}
 use Rattle.words.specs.Word.{wordsOf}
