@@ -8,9 +8,10 @@ use Rattle.operators.specs.declared.Operator.{Operator}
 use Rattle.operators.specs.declared.Operator.the-variants.{Equal, NotEqual, Below, AtMost, Above, AtLeast, Distinct, NotDistinct}
 use Rattle.kleene.specs.declared.Joining.{Joining}
 use Rattle.kleene.specs.declared.Joining.the-variants.{And, Or}
-use Rattle.literals.specs.Literals.{Value, null, int, text, truth, bitOf}
+use Rattle.literals.specs.Literals.{Value, bitOf}
+use Rattle.orders.specs.Values.{isNull}
 use Rattle.predicate.specs.declared.Column.{Column}
-use Rattle.predicate.specs.Predicates.{Predicate, constant, join, not, column, isNull, isNotNull, comparison, list, like}
+use Rattle.predicate.specs.Predicates.{Predicate, constant, join, not, column, isNull as isNullNode, isNotNull, comparison, list, like}
 use Rattle.predicate.specs.Measures.{width}
 
 -- In, or NotIn, the set; with its node word's place
@@ -20,12 +21,13 @@ pub record Guarantee : Type 0 where
   pub place : ℕ
   pub set : List Value
 
+abbrev pub unlessNull : Bool → Value → List Value → List Value
+unlessNull true v vs = vs
+unlessNull false v vs = v ∷ vs
+
 abbrev pub nonNull : List Value → List Value
 nonNull [] = []
-nonNull (null ∷ vs) = nonNull vs
-nonNull (int z ∷ vs) = int z ∷ nonNull vs
-nonNull (text bs ∷ vs) = text bs ∷ nonNull vs
-nonNull (truth b ∷ vs) = truth b ∷ nonNull vs
+nonNull (v ∷ vs) = unlessNull (isNull v) v (nonNull vs)
 
 -- an empty set gives none
 abbrev pub overSet : ℕ → Column → Bool → List Value → List Guarantee
@@ -58,7 +60,7 @@ guarantees at (constant t) = []
 guarantees at (join j l r) = ofJoin j (guarantees (at + 1) l ++ guarantees (at + 1 + width l) r)
 guarantees at (not p) = []
 guarantees at (column c) = []
-guarantees at (isNull c) = []
+guarantees at (isNullNode c) = []
 guarantees at (isNotNull c) = []
 guarantees at (comparison o c n b v) = ofComparison o at c n v
 guarantees at (list b c n vs) = unflipped n at c b vs

@@ -6,7 +6,7 @@ ghost use mathlib.Core.List.{[], _∷_};
 ghost use Prim.Native.Nat.{_^_, _<_};
 ghost use Rattle.literals.specs.Signed.{signed, bitsOf, negated, intOrder};
 ghost use Rattle.words.specs.Layout.{packed};
-ghost use Rattle.literals.specs.Literals.{literalLayout, typeOf, lengthOf, zeroOf, offsetOf, literalOf, bitOf, literalWord, LiteralFits};
+ghost use Rattle.literals.specs.Literals.{literalLayout, typeOf, lengthOf, zeroOf, offsetOf, plain, inside, suits, literalOf, bitOf, literalWord, LiteralFits};
 
 pub enum Literal {
     Null,
@@ -29,6 +29,9 @@ impl Literal {
     pub const TEXT: u8 = 2;
 
     pub const TRUTH: u8 = 3;
+
+    // Bytes of an integer.
+    pub const INTEGER_BYTES: usize = 8;
 }
 
 // The integer that 64 bits stand for in two's complement.
@@ -105,6 +108,62 @@ pub fn offset_of(w: u64) -> usize
     (w % 16777216) as usize
 }
 
+// Whether a literal word has no unnamed field set, and a null none at all.
+pub fn is_plain(w: u64) -> bool
+    ensures { λ r. ⌜ r ≡ plain w ⌝ }
+{
+    if zero_of(w) != 0 {
+        return false;
+    }
+    if type_of(w) != Literal::NULL {
+        return true;
+    }
+    if length_of(w) != 0 {
+        return false;
+    }
+    offset_of(w) == 0
+}
+
+// Whether the bytes of a literal word lie inside the pool.
+fn is_inside(pool: &[u8], w: u64) -> bool
+    ensures { λ r. ⌜ r ≡ inside (now (pool .entry)) w ⌝ }
+{
+    offset_of(w) + length_of(w) <= pool.len()
+}
+
+// Whether a literal word is null, or of the type asked, of that type's length or truth value, and inside the pool.
+pub fn suits(pool: &[u8], kind: u8, w: u64) -> bool
+    ensures { λ r. ⌜ r ≡ suits (now (pool .entry)) kind w ⌝ }
+{
+    match type_of(w) {
+        Literal::NULL => true,
+        Literal::INTEGER => {
+            if kind != Literal::INTEGER {
+                return false;
+            }
+            if length_of(w) != Literal::INTEGER_BYTES {
+                return false;
+            }
+            is_inside(pool, w)
+        }
+        Literal::TEXT => {
+            if kind != Literal::TEXT {
+                return false;
+            }
+            is_inside(pool, w)
+        }
+        _ => {
+            if kind != Literal::TRUTH {
+                return false;
+            }
+            if length_of(w) != 0 {
+                return false;
+            }
+            offset_of(w) <= 1
+        }
+    }
+}
+
 // The literal of a word, a total reading: a byte past the pool's end counts as 0.
 pub fn literal_of(pool: &[u8], w: u64) -> Literal
     ensures { λ r. ⌜ r ≡ literalOf (now (pool .entry)) w ⌝ }
@@ -143,7 +202,7 @@ pub fn literal_word(l: Literal, offset: usize) -> u64
 {
     match l {
         Literal::Null => 0,
-        Literal::Int(_) => pack(Literal::INTEGER, 8, offset),
+        Literal::Int(_) => pack(Literal::INTEGER, Literal::INTEGER_BYTES, offset),
         Literal::Text(r) => pack(Literal::TEXT, r.len, offset),
         Literal::Truth(b) => pack(Literal::TRUTH, 0, bit(b)),
     }

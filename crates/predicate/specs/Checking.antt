@@ -7,28 +7,37 @@ use Prim.Native.Nat.{ℕ, zero, suc, _+_, _-_}
 use native.Mathlib.Numerals.{sub-one}
 use lib.ListN.{length, getD}
 use lib.Dec.{eqb, leb, ltb}
-use Rattle.limits.specs.Limits.{maxNodes, maxListLiterals, maxLiteralBytes, maxAllLiteralBytes, maxDepth, malformed, overLimit, misfit}
+use Rattle.limits.specs.Limits.{maxColumns, maxNodes, maxListLiterals, maxLiteralBytes, maxAllLiteralBytes, maxDepth, malformed, overLimit, misfit}
 use Rattle.words.specs.Word.{rangeOf}
-use Rattle.literals.specs.Literals.{typeOf, lengthOf, offsetOf, plain, suits, textType, truthType}
+use Rattle.literals.specs.Literals.{typeOf, lengthOf, offsetOf, plain, suits, integerType, textType, truthType}
 use Rattle.text.specs.Machine.{isUtf8}
 use Rattle.predicate.specs.Nodes.{kindOf, operatorField, columnField, flipsOf, firstField, countOf, zeroField}
 use Rattle.predicate.specs.Predicates.{nodeAt}
 use Rattle.predicate.specs.declared.Column.{Column}
 use Rattle.predicate.specs.declared.Node.{Node}
 use Rattle.predicate.specs.declared.Node.the-variants.{Constant, Join, Not, TruthColumn, IsNull, IsNotNull, Comparison, List as InList, Like}
+use Rattle.predicate.specs.declared.Shape.{Shape}
 use Rattle.predicate.specs.declared.Progress.{Progress}
 use Rattle.predicate.specs.declared.Checked.{Checked}
 use Rattle.predicate.specs.declared.Checked.the-variants.{Refused, Passed}
 
--- ---- a node's word
+-- ---- the schema
 
--- what a kind of node has: so many operators, from 0, and which of the fields that only some kinds have
-pub record Shape : Type 0 where
-  pub operators : ℕ
-  pub column : Bool
-  pub flips : Bool
-  pub first : Bool
-  pub count : Bool
+-- every schema byte is 1, 2 or 3
+unfoldable pub typesFine : List ℕ → Bool
+typesFine [] = true
+typesFine (b ∷ bs) = leb integerType b && (leb b truthType && typesFine bs)
+
+abbrev pub schemaFine : List ℕ → Bool
+schemaFine schema = leb (length schema) maxColumns && typesFine schema
+
+-- ---- a word
+
+-- 4 before 5 before 6
+abbrev pub firstFault : Bool → Bool → Bool → ℕ
+firstFault formed limited fitting = cond formed (cond limited (cond fitting 0 misfit) overLimit) malformed
+
+-- ---- a node's word
 
 abbrev pub bare : ℕ → Shape
 bare n = record { operators = n; column = false; flips = false; first = false; count = false }
@@ -94,7 +103,7 @@ columned schema (Like b c l) = eqb (typeIn schema (c .0)) textType
 -- the fault of the node n whose word w stands at the next place
 abbrev pub wordFault : List ℕ → ℕ → Progress → ℕ → Node → ℕ
 wordFault schema depth s w n =
-    cond (formed w) (cond (limited depth s w) (cond (columned schema n) 0 misfit) overLimit) malformed
+    firstFault (formed w) (limited depth s w) (columned schema n)
 
 -- ---- a literal's word
 
@@ -110,7 +119,7 @@ patterned pattern pool w =
 -- the fault of a literal for a column of this type; pattern: it belongs to a LIKE
 abbrev pub literalFault : List ℕ → Bool → ℕ → Progress → ℕ → ℕ
 literalFault pool pattern type s w =
-    cond (plain w) (cond (literalLimited s w) (cond (suits pool type w && patterned pattern pool w) 0 misfit) overLimit) malformed
+    firstFault (plain w) (literalLimited s w) (suits pool type w && patterned pattern pool w)
 
 -- ---- words in order
 

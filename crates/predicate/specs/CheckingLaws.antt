@@ -14,10 +14,11 @@ use Rattle.words.specs.Tests.{and-both, or-other}
 use Rattle.literals.specs.Literals.{lengthOf, plain, suits, literalOf, textType, truthType}
 use Rattle.predicate.specs.Nodes.{kindOf, operatorField, columnField, flipsOf, firstField, countOf, zeroField, nodeOf}
 use Rattle.predicate.specs.Predicates.{nodeAt}
-use Rattle.predicate.specs.Checking.{Shape, shapeOf, unusedZero, formed, limited, typeIn, flippable, columned, wordFault, literalLimited, patterned, literalFault, missing, thenOn, passes, afterNode, afterLiteral, wordHere, checkLiteral, checkLiterals, checkBehind, nodeFault, checkFrom, finish, atStart, predicateFault}
+use Rattle.predicate.specs.Checking.{firstFault, shapeOf, unusedZero, formed, limited, typeIn, flippable, columned, wordFault, literalLimited, patterned, literalFault, missing, thenOn, passes, afterNode, afterLiteral, wordHere, checkLiteral, checkLiterals, checkBehind, nodeFault, checkFrom, finish, atStart, predicateFault}
 use Rattle.predicate.specs.declared.Column.{Column}
 use Rattle.predicate.specs.declared.Node.{Node}
 use Rattle.predicate.specs.declared.Node.the-variants.{Constant, Join, Not, TruthColumn, IsNull, IsNotNull, Comparison, List as InList, Like}
+use Rattle.predicate.specs.declared.Shape.{Shape}
 use Rattle.predicate.specs.declared.Progress.{Progress}
 use Rattle.predicate.specs.declared.Checked.{Checked}
 use Rattle.predicate.specs.declared.Checked.the-variants.{Refused, Passed}
@@ -55,7 +56,7 @@ present true x e = absurd (omega arith)
 present false x e = (refl, e)
 
 -- a word that is formed, within the limits and fitting
-pub no-fault : (formed limited fitting : Bool) → cond formed (cond limited (cond fitting 0 misfit) overLimit) malformed ≡ 0
+pub no-fault : (formed limited fitting : Bool) → firstFault formed limited fitting ≡ 0
     → (formed ≡ true) × (limited ≡ true) × (fitting ≡ true)
 no-fault true true true e = (refl, refl, refl)
 no-fault true true false e = absurd (omega arith)
@@ -72,7 +73,7 @@ abbrev pub Answers : Checked → Type 0
 Answers (Refused n) = (malformed ≤ n) × (n ≤ misfit)
 Answers (Passed s) = Unit {0}
 
-tests-fault : (gone formed limited fitting : Bool) → Fault (cond gone malformed (cond formed (cond limited (cond fitting 0 misfit) overLimit) malformed))
+tests-fault : (gone formed limited fitting : Bool) → Fault (cond gone malformed (firstFault formed limited fitting))
 tests-fault true a b c = inr (lit≤ tt, lit≤ tt)
 tests-fault false false b c = inr (lit≤ tt, lit≤ tt)
 tests-fault false true false c = inr (lit≤ tt, lit≤ tt)

@@ -2,8 +2,10 @@ pub mod Nodes
 pub mod Predicates
 pub mod Measures
 pub mod Checking
+pub mod KindLaws
 pub mod Meaning
 pub mod Rows
 pub mod CheckingLaws
 pub mod Accepted
 pub mod Refusals
+pub mod Calls

@@ -6,6 +6,7 @@ use lib.ListN.{length}
 use lib.Dec.{eqb, leb}
 use Rattle.limits.specs.Limits.{maxContainers, maxTableDepth, badSchema, badContainers, badTable, badGrid, badAnswers}
 use Rattle.words.specs.Word.{wordsOf}
+use Rattle.predicate.specs.Checking.{schemaFine}
 use Rattle.statistics.specs.Statistics.{statisticsOf}
 use Rattle.statistics.specs.declared.Statistic.{Statistic}
 use Rattle.table.specs.Tables.{Table}
@@ -14,7 +15,6 @@ use Rattle.pruning.specs.TableReading.{tableAt}
 use Rattle.pruning.specs.TableChecking.{checkedTable}
 use Rattle.pruning.specs.Cells.{rowsFine, cellOf, answersFine}
 use Rattle.pruning.specs.Evaluating.{answersDrop, flagOf}
-use Rattle.spill.specs.Rewrite.{schemaFine}
 
 -- what a pruning call is given, in bytes but for the container count and the room for flags
 pub record Call : Type 0 where

@@ -1,51 +1,16 @@
 -- The whole of rewriting, from the call's bytes to its outcome: a refusal, or the four outputs; and the answer word. Assumes nothing.
-use mathlib.Core.Bool.{Bool, true, false, cond, _&&_, _||_}
-use mathlib.Core.List.{List, [], _∷_, _++_}
-use Prim.Native.Nat.{ℕ, zero, suc, _/_, _%_}
-use lib.ListN.{length, drop}
-use lib.Dec.{eqb, leb}
-use Rattle.limits.specs.Limits.{maxColumns, maxListLimit, maxPoolBytes, maxDepth, tableRoom, tablePoolRoom, statisticsRoom, guaranteesRoom, badSchema, badLimit, noRoom, malformed}
+use mathlib.Core.List.{List, [], _∷_}
+use Prim.Native.Nat.{ℕ, zero, suc, _/_}
+use lib.ListN.{length}
+use Rattle.limits.specs.Limits.{maxDepth}
 use Rattle.words.specs.Word.{wordsOf, bytesOf}
 use Rattle.words.specs.Layout.{packed}
-use Rattle.literals.specs.Literals.{integerType, truthType}
 use Rattle.predicate.specs.Predicates.{Predicate, predicateAt}
-use Rattle.predicate.specs.Checking.{predicateFault}
+use Rattle.predicate.specs.Calls.{Rooms, rewriteFault}
 use Rattle.statistics.specs.Statistics.{statisticWords}
 use Rattle.table.specs.Rewriting.{rewritten, statistics}
 use Rattle.table.specs.Encoding.{tableWords, poolOf}
 use Rattle.guarantees.specs.Guarantees.{guarantees, guaranteeWords}
-
--- ---- tests
-
--- every schema byte is 1, 2 or 3
-unfoldable pub typesFine : List ℕ → Bool
-typesFine [] = true
-typesFine (b ∷ bs) = leb integerType b && (leb b truthType && typesFine bs)
-
-abbrev pub schemaFine : List ℕ → Bool
-schemaFine schema = leb (length schema) maxColumns && typesFine schema
-
--- the lengths of the four lent outputs
-pub record Rooms : Type 0 where
-  pub table : ℕ
-  pub pool : ℕ
-  pub statistics : ℕ
-  pub guarantees : ℕ
-
-abbrev pub roomy : Rooms → Bool
-roomy r =
-    leb tableRoom (r .table) && (leb tablePoolRoom (r .pool) && (leb statisticsRoom (r .statistics) && leb guaranteesRoom (r .guarantees)))
-
--- 1, 2, 3, whole words, then word by word
-unfoldable pub rewriteFault : List ℕ → List ℕ → List ℕ → ℕ → Rooms → ℕ
-rewriteFault schema predicate pool limit rooms =
-    cond (schemaFine schema)
-    (cond (leb limit maxListLimit && leb (length pool) maxPoolBytes)
-    (cond (roomy rooms)
-    (cond (eqb (length predicate % 8) 0) (predicateFault schema pool (wordsOf predicate)) malformed)
-    noRoom)
-    badLimit)
-    badSchema
 
 -- ---- the outcome
 

@@ -4,6 +4,7 @@ pub mod Chars
 pub mod Machine
 pub mod Valid
 pub mod Pattern
+pub mod Wrote
 pub mod Match
 pub mod Upper
 pub mod Cases
