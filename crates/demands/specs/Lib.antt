@@ -1,1 +1,5 @@
+pub mod Calls
 pub mod Cases
+pub mod Rows
+pub mod Sharp
+pub mod Needed

@@ -2,3 +2,4 @@ pub mod Guarantees
 pub mod Fitting
 pub mod GuaranteeLaws
 pub mod Soundness
+pub mod Bounds

@@ -41,6 +41,18 @@ maxTableDepth = 289
 abbrev pub maxTableTextBytes : ℕ
 maxTableTextBytes = 1025
 
+-- of a rewritten table: 8 for each of 128 leaves and 256 list literals, less one
+abbrev pub maxTableWords : ℕ
+maxTableWords = 3071
+
+-- of a statistics list: three of each column, and rows
+abbrev pub maxStatistics : ℕ
+maxStatistics = 193
+
+-- one for each of 128 leaves
+abbrev pub maxGuarantees : ℕ
+maxGuarantees = 128
+
 -- ---- rooms, in bytes
 
 abbrev pub tableRoom : ℕ

@@ -1,12 +1,12 @@
 -- Integers: two's complement in 64 bits, as exact integers; minus, which is exact. `negsuc k` is -(k + 1). Assumes nothing.
-use mathlib.Core.Path.{_≡_, refl, ap}
+use mathlib.Core.Path.{_≡_, refl, sym, ap, _∙_}
 use mathlib.Core.Bool.{Bool, true, false, cond, not}
-use Prim.Native.Nat.{ℕ, _-_, _^_, _≤_, _<_}
+use Prim.Native.Nat.{ℕ, zero, suc, _-_, _^_, _≤_, _<_}
 use native.Mathlib.Omega.{arith}
 use lib.Dec.{leb, ltb, eqb}
 use lib.IntN.{ℤ, pos, negsuc, negℤ}
 use lib.Signed.{ltZ, leZ}
-use borrow.Author.Tests.{lt-ltb, le-ltb, ltb-true, ltb-false, leb-true, leb-false, ne-eqb}
+use borrow.Author.Tests.{lt-ltb, le-ltb, ltb-true, ltb-false, leb-true, leb-false, eqb-true, eqb-false, ne-eqb}
 use Rattle.words.specs.declared.Order.{Order}
 use Rattle.words.specs.declared.Order.the-variants.{Less, Equal, Greater}
 use Rattle.literals.specs.declared.Negated.{Negated}
@@ -88,6 +88,19 @@ negated-is (negsuc n) y e = go (eqb n (2 ^ 63 - 1)) e
     go : (b : Bool) → cond b Unhandled (To (negℤ (negsuc n))) ≡ To y → y ≡ negℤ (negsuc n)
     go true e = cc
     go false e = cc
+
+-- and has 64 bits, as the one minus that has not is left unhandled
+pub negated-fits : (z y : ℤ) → negated z ≡ To y → Fits64 z → Fits64 y
+negated-fits (pos zero) y e h = rw (negated-is (pos zero) y e) h
+negated-fits (pos (suc n)) y e h = rw (negated-is (pos (suc n)) y e) (omega arith)
+negated-fits (negsuc n) y e h = rw (negated-is (negsuc n) y e) (go (eqb n (2 ^ 63 - 1)) refl)
+  where
+    go : (t : Bool) → eqb n (2 ^ 63 - 1) ≡ t → suc n < 2 ^ 63
+    go true f =
+        let g : To y ≡ Unhandled = sym e ∙ ap (λ k. negated (negsuc k)) (eqb-true n (2 ^ 63 - 1) f) ∙ negated-least in
+        let z : _≡_ {A = ℕ} 0 1 = cc in
+        absurd (omega arith)
+    go false f = let k = eqb-false n (2 ^ 63 - 1) f in omega arith
 
 ltb-leb : (m n : ℕ) → ltb m n ≡ not (leb n m)
 ltb-leb m n = go (leb n m) refl

@@ -1,6 +1,8 @@
-// The comparison operators: their codes, and each one's swap.
+// The comparison operators: their codes, each one's swap, and what each asks of an order.
+use words::Order;
 ghost use mathlib.Core.Path.{_≡_};
-ghost use Rattle.operators.specs.Operators.{operatorOf, codeOf, swapOf};
+ghost use Rattle.words.specs.declared.Order.the-variants.{Less, Equal as Same, Greater};
+ghost use Rattle.operators.specs.Operators.{operatorOf, codeOf, swapOf, holds};
 
 pub enum Operator {
     Equal,
@@ -82,6 +84,65 @@ impl Operator {
             Operator::AtLeast => Operator::AtMost,
             Operator::Distinct => Operator::Distinct,
             Operator::NotDistinct => Operator::NotDistinct,
+        }
+    }
+
+    // Whether the operator holds of two values, the first below the second.
+    fn holds_less(self) -> bool
+        ensures { λ b. ⌜ b ≡ holds self Less ⌝ }
+    {
+        match self {
+            Operator::Equal => false,
+            Operator::NotEqual => true,
+            Operator::Below => true,
+            Operator::AtMost => true,
+            Operator::Above => false,
+            Operator::AtLeast => false,
+            Operator::Distinct => true,
+            Operator::NotDistinct => false,
+        }
+    }
+
+    // Whether the operator holds of two equal values.
+    fn holds_same(self) -> bool
+        ensures { λ b. ⌜ b ≡ holds self Same ⌝ }
+    {
+        match self {
+            Operator::Equal => true,
+            Operator::NotEqual => false,
+            Operator::Below => false,
+            Operator::AtMost => true,
+            Operator::Above => false,
+            Operator::AtLeast => true,
+            Operator::Distinct => false,
+            Operator::NotDistinct => true,
+        }
+    }
+
+    // Whether the operator holds of two values, the first above the second.
+    fn holds_greater(self) -> bool
+        ensures { λ b. ⌜ b ≡ holds self Greater ⌝ }
+    {
+        match self {
+            Operator::Equal => false,
+            Operator::NotEqual => true,
+            Operator::Below => false,
+            Operator::AtMost => false,
+            Operator::Above => true,
+            Operator::AtLeast => true,
+            Operator::Distinct => true,
+            Operator::NotDistinct => false,
+        }
+    }
+
+    // Whether the operator holds of two values that compare so.
+    pub fn holds(self, r: Order) -> bool
+        ensures { λ b. ⌜ b ≡ holds self r ⌝ }
+    {
+        match r {
+            Order::Less => self.holds_less(),
+            Order::Equal => self.holds_same(),
+            Order::Greater => self.holds_greater(),
         }
     }
 }

@@ -2,7 +2,7 @@
 -- has counted, within the limits. Assumes nothing.
 use mathlib.Core.Path.{_≡_, refl, sym, ap, _∙_}
 use mathlib.Core.Bool.{Bool, true, false, not as negation}
-use mathlib.Core.List.{List, [], _∷_}
+use mathlib.Core.List.{List, [], _∷_, _++_}
 use Prim.Native.Nat.{ℕ, zero, suc, _+_, _*_, _≤_, _<_}
 use native.Mathlib.Omega.{arith}
 use lib.ListN.{length, getD, length-take, length-drop}
@@ -55,6 +55,10 @@ literal-plain type null h = tt
 literal-plain type (int z) h = h .1
 literal-plain type (text bs) h = omega arith
 literal-plain type (truth b) h = tt
+
+pub literals-split : (type : ℕ) (us vs : List Value) → LiteralsOf type (us ++ vs) → LiteralsOf type us × LiteralsOf type vs
+literals-split type [] vs h = (tt, h)
+literals-split type (u ∷ us) vs h = let s = literals-split type us vs (h .1) in ((h .0, s .0), s .1)
 
 -- a pattern of LIKE
 abbrev pub Pattern : Value → Type 0
@@ -109,6 +113,29 @@ leaves-nodes (isNotNull c) = omega arith
 leaves-nodes (comparison o c n b v) = omega arith
 leaves-nodes (list b c n vs) = omega arith
 leaves-nodes (like b c v) = omega arith
+
+pub leaves-some : (p : Predicate) → 1 ≤ leaves p
+leaves-some (constant t) = omega arith
+leaves-some (join j l r) = omega (arith, leaves-some l)
+leaves-some (not p) = leaves-some p
+leaves-some (column c) = omega arith
+leaves-some (isNull c) = omega arith
+leaves-some (isNotNull c) = omega arith
+leaves-some (comparison o c n b v) = omega arith
+leaves-some (list b c n vs) = omega arith
+leaves-some (like b c v) = omega arith
+
+-- a word for each node, each list literal, and at most one literal more of each node
+pub width-most : (p : Predicate) → width p ≤ 2 * nodes p + listed p
+width-most (constant t) = omega arith
+width-most (join j l r) = omega (arith, width-most l, width-most r)
+width-most (not p) = omega (arith, width-most p)
+width-most (column c) = omega arith
+width-most (isNull c) = omega arith
+width-most (isNotNull c) = omega arith
+width-most (comparison o c n b v) = omega arith
+width-most (list b c n vs) = omega arith
+width-most (like b c v) = omega arith
 
 -- ---- literals
 

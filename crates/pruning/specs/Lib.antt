@@ -3,3 +3,7 @@ pub mod TableChecking
 pub mod Cells
 pub mod Evaluating
 pub mod RoundTrip
+pub mod Writes
+pub mod GridLaws
+pub mod CheckingLaws
+pub mod NodeLaws

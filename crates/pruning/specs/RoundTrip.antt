@@ -106,15 +106,15 @@ module _ (pool : List ℕ) (l : ℕ) where
 
 -- ---- words from a place on
 
-word-here : (ws xs : List ℕ) (at w : ℕ) → drop at ws ≡ w ∷ xs → getD ws at 0 ≡ w
+pub word-here : (ws xs : List ℕ) (at w : ℕ) → drop at ws ≡ w ∷ xs → getD ws at 0 ≡ w
 word-here ws xs at w e =
     ap (λ (n : ℕ). getD ws n 0) (sym (add-zero at)) ∙ sym (getD-drop at ws 0 0) ∙ ap (λ (l : List ℕ). getD l 0 0) e
 
-word-next : (ws xs : List ℕ) (at w : ℕ) → drop at ws ≡ w ∷ xs → getD ws (at + 1) 0 ≡ getD xs 0 0
+pub word-next : (ws xs : List ℕ) (at w : ℕ) → drop at ws ≡ w ∷ xs → getD ws (at + 1) 0 ≡ getD xs 0 0
 word-next ws xs at w e = sym (getD-drop at ws 1 0) ∙ ap (λ (l : List ℕ). getD l 1 0) e
 
 -- behind a run of n words
-skip : (ws a b : List ℕ) (at n : ℕ) → length a ≡ n → drop at ws ≡ a ++ b → drop (at + n) ws ≡ b
+pub skip : (ws a b : List ℕ) (at n : ℕ) → length a ≡ n → drop at ws ≡ a ++ b → drop (at + n) ws ≡ b
 skip ws a b at n k e = rw (← k) (sym (drop-drop (length a) at ws) ∙ rw e (drop-append-seam a b))
 
 -- ---- the theorem

@@ -1,2 +1,4 @@
 pub mod Rewrite
 pub mod Prune
+pub mod Bounds
+pub mod Done

@@ -1,3 +1,4 @@
 pub mod Statistics
 pub mod Pigeonhole
 pub mod ListLaws
+pub mod Reading

@@ -1,26 +1,23 @@
 -- Rewriting yields constants at the root only. Assumes nothing.
 use mathlib.Core.Path.{_≡_, refl}
-use mathlib.Core.Bool.{Bool, true, false, cond}
+use mathlib.Core.Bool.{Bool, true, false}
 use mathlib.Core.Logic.{_⊎_, inl, inr}
-use mathlib.Core.List.{List, [], _∷_}
+use mathlib.Core.List.{List}
 use mathlib.Core.Option.{Option, some, none}
 use Prim.Native.Nat.{ℕ}
-use lib.ListN.{length}
-use lib.Dec.{leb}
 use Rattle.operators.specs.declared.Operator.{Operator}
 use Rattle.operators.specs.declared.Operator.the-variants.{Equal, NotEqual, Below, AtMost, Above, AtLeast, Distinct, NotDistinct}
-use Rattle.kleene.specs.declared.Truth.{Truth}
-use Rattle.kleene.specs.declared.Truth.the-variants.{False, Unknown, True}
 use Rattle.kleene.specs.declared.Joining.{Joining}
 use Rattle.kleene.specs.declared.Joining.the-variants.{And, Or}
-use Rattle.literals.specs.Literals.{Value, null, int, text, truth}
+use Rattle.literals.specs.Literals.{Value}
 use Rattle.predicate.specs.declared.Column.{Column}
-use Rattle.predicate.specs.Predicates.{Predicate, constant, join, not, column, isNull, isNotNull, comparison, list, like}
+use Rattle.predicate.specs.Predicates.{Predicate}
 use Rattle.predicate.specs.Checking.{typeIn}
 use Rattle.table.specs.declared.Known.the-variants.{Open}
 use Rattle.table.specs.Tables.{Table, always, both, against, positive, differ, holds, negation, known, joined}
-use Rattle.table.specs.Comparisons.{Turned, asks, stays, turned, comparisonForm, distinctForm, notDistinctForm, turnedForm, boundedForm, patternPrefix, patternUpper, likeTable}
-use Rattle.table.specs.Rewriting.{constantTable, notTable, comparisonTable, listOperator, listJoining, membersTable, nestedTable, rewritten}
+use Rattle.table.specs.Comparisons.{Turned, asks, stays, turned, comparisonForm, turnedForm, boundedForm, patternPrefix, patternUpper}
+use Rattle.table.specs.Rewriting.{listOperator, listJoining, comparisonTable, rewritten}
+use Rattle.table.specs.Induction.{distinct-by, not-distinct-by, Kept, rewritten-by}
 
 -- no constant stands anywhere in it
 abbrev pub Solid : Table → Type 0
@@ -73,27 +70,15 @@ joined-root j l r (inr s) (inr t) = both-solid j l r s t
 
 -- ---- leaves
 
-distinct-solid : (c : Column) (v : Value) → Solid (distinctForm c v)
-distinct-solid c null = tt
-distinct-solid c (int z) = (tt, (tt, tt))
-distinct-solid c (text bs) = (tt, (tt, tt))
-distinct-solid c (truth b) = (tt, (tt, tt))
-
-not-distinct-solid : (c : Column) (v : Value) → Solid (notDistinctForm c v)
-not-distinct-solid c null = tt
-not-distinct-solid c (int z) = (tt, (tt, tt))
-not-distinct-solid c (text bs) = (tt, (tt, tt))
-not-distinct-solid c (truth b) = (tt, (tt, tt))
-
-form-solid : (c : Column) (o : Operator) (v : Value) → Solid (comparisonForm c o v)
+pub form-solid : (c : Column) (o : Operator) (v : Value) → Solid (comparisonForm c o v)
 form-solid c Equal v = (tt, (tt, tt))
 form-solid c NotEqual v = (tt, (tt, tt))
 form-solid c Below v = (tt, tt)
 form-solid c AtMost v = (tt, tt)
 form-solid c Above v = (tt, tt)
 form-solid c AtLeast v = (tt, tt)
-form-solid c Distinct v = distinct-solid c v
-form-solid c NotDistinct v = not-distinct-solid c v
+form-solid c Distinct v = distinct-by Solid c v tt (tt, (tt, tt))
+form-solid c NotDistinct v = not-distinct-by Solid c v tt (tt, (tt, tt))
 
 turned-root : (c : Column) (t : Turned) → RootOnly (turnedForm c t)
 turned-root c (asks o v) = inr (form-solid c o v)
@@ -103,59 +88,28 @@ bounded-root : (c : Column) (prefix : List ℕ) (upper : Option (List ℕ)) → 
 bounded-root c prefix none = constant-root true
 bounded-root c prefix (some upper) = inr (tt, (tt, tt))
 
-like-root : (b : Bool) (c : Column) (v : Value) → RootOnly (likeTable b c v)
-like-root true c v = constant-root true
-like-root false c v = bounded-root c (patternPrefix v) (patternUpper v)
-
-constant-table-root : (t : Truth) → RootOnly (constantTable t)
-constant-table-root False = constant-root false
-constant-table-root Unknown = constant-root true
-constant-table-root True = constant-root true
-
-not-root : (p : Predicate) → RootOnly (notTable p)
-not-root (constant t) = constant-root true
-not-root (join j l r) = constant-root true
-not-root (not p) = constant-root true
-not-root (column c) = inr (tt, tt)
-not-root (isNull c) = constant-root true
-not-root (isNotNull c) = constant-root true
-not-root (comparison o c n b v) = constant-root true
-not-root (list b c n vs) = constant-root true
-not-root (like b c v) = constant-root true
-
 -- ---- the theorem
 
 module _ (schema : List ℕ) where
   comparison-root : (o : Operator) (c : Column) (n : ℕ) (b : Bool) (v : Value) → RootOnly (comparisonTable schema o c n b v)
   comparison-root o c n b v = turned-root c (turned (typeIn schema (c .0)) o n b v)
 
-  members-root : (b : Bool) (c : Column) (n : ℕ) (t : Table) (vs : List Value) → RootOnly t → RootOnly (membersTable schema b c n t vs)
-  unfolding membersTable
-  members-root b c n t [] h = h
-  members-root b c n t (v ∷ vs) h =
-      let m = comparisonTable schema (listOperator b) c n false v in
-      members-root b c n (joined (listJoining b) t m) vs (joined-root (listJoining b) t m h (comparison-root (listOperator b) c n false v))
-
-  nested-root : (b : Bool) (c : Column) (n : ℕ) (vs : List Value) → RootOnly (nestedTable schema b c n vs)
-  nested-root b c n [] = constant-root true
-  nested-root b c n (v ∷ vs) =
-      members-root b c n (comparisonTable schema (listOperator b) c n false v) vs (comparison-root (listOperator b) c n false v)
-
-  list-root : (b : Bool) (c : Column) (n : ℕ) (vs : List Value) (within : Bool)
-      → RootOnly (cond within (nestedTable schema b c n vs) (always true))
-  list-root b c n vs true = nested-root b c n vs
-  list-root b c n vs false = constant-root true
+  roots-kept : Kept schema (λ p t a. RootOnly t)
+  roots-kept =
+      record {
+        still = λ p b. constant-root b;
+        joins = λ j l r t u a b. joined-root j t u;
+        ofColumn = λ c. inr (tt, tt);
+        ofNot = λ c. inr (tt, tt);
+        ofNull = λ c. inr tt;
+        ofNotNull = λ c. inr tt;
+        ofComparison = comparison-root;
+        ofOne = λ b c n v. comparison-root (listOperator b) c n false v;
+        ofMore = λ b c n u us v t a h.
+            joined-root (listJoining b) t (comparisonTable schema (listOperator b) c n false v) h (comparison-root (listOperator b) c n false v);
+        ofLike = λ c v. bounded-root c (patternPrefix v) (patternUpper v);
+      }
 
 -- the table of a predicate is a constant, or has none in it
 pub rewritten-root : (limit : ℕ) (schema : List ℕ) (p : Predicate) → RootOnly (rewritten limit schema p)
-unfolding rewritten
-rewritten-root limit schema (constant t) = constant-table-root t
-rewritten-root limit schema (join j l r) =
-    joined-root j (rewritten limit schema l) (rewritten limit schema r) (rewritten-root limit schema l) (rewritten-root limit schema r)
-rewritten-root limit schema (not p) = not-root p
-rewritten-root limit schema (column c) = inr (tt, tt)
-rewritten-root limit schema (isNull c) = inr tt
-rewritten-root limit schema (isNotNull c) = inr tt
-rewritten-root limit schema (comparison o c n b v) = comparison-root schema o c n b v
-rewritten-root limit schema (list b c n vs) = list-root schema b c n vs (leb (length vs) limit)
-rewritten-root limit schema (like b c v) = like-root b c v
+rewritten-root limit schema p = rewritten-by limit schema (λ p t a. RootOnly t) (roots-kept schema) p

@@ -41,7 +41,7 @@ use Rattle.table.specs.Fitting.{oneIf, blanksIn, Counts, Bounds, FitCell
 
 -- ---- blanks and rows
 
-blanks-le : (c : Column) (rows : List Row) → blanksIn c rows ≤ length rows
+pub blanks-le : (c : Column) (rows : List Row) → blanksIn c rows ≤ length rows
 blanks-le c [] = omega arith
 blanks-le c (r ∷ rows) = go (isNull (valueIn r c)) (blanks-le c rows)
   where
@@ -97,7 +97,7 @@ null-is (int z) e = absurd (true≢false (sym e))
 null-is (text bs) e = absurd (true≢false (sym e))
 null-is (truth b) e = absurd (true≢false (sym e))
 
-order-null : (v : Value) → orderOf v null ≡ none
+pub order-null : (v : Value) → orderOf v null ≡ none
 order-null null = refl
 order-null (int z) = refl
 order-null (text bs) = refl

@@ -4,9 +4,15 @@ pub mod Rewriting
 pub mod Encoding
 pub mod Worth
 pub mod Fitting
+pub mod Induction
 pub mod Constants
 pub mod Turning
 pub mod FormsSound
 pub mod Measures
 pub mod EncodingLaws
+pub mod Naming
+pub mod Bounds
+pub mod Proper
 pub mod Soundness
+pub mod Sharpness
+pub mod Nests

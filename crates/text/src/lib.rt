@@ -106,7 +106,7 @@ pub fn is_utf8(s: &[u8]) -> bool
 
 const BACKSLASH: u8 = b'\\';
 
-// A wildcard, not escaped.
+// Whether b is a wildcard, not escaped.
 fn ends(escaped: bool, b: u8) -> bool
     ensures { λ r. ⌜ r ≡ endsAt escaped b ⌝ }
 {
@@ -117,7 +117,7 @@ fn ends(escaped: bool, b: u8) -> bool
     }
 }
 
-// A backslash, not escaped.
+// Whether b is a backslash, not escaped.
 fn opens(escaped: bool, b: u8) -> bool
     ensures { λ r. ⌜ r ≡ opensAt escaped b ⌝ }
 {

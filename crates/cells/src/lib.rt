@@ -1,0 +1,125 @@
+// Cells, the grid and the answers: what is accepted, and the counts that cells hold.
+use statistics::Place;
+use statistics::Statistic;
+ghost use mathlib.Core.Path.{_≡_};
+ghost use Prim.Native.Nat.{_+_, _*_, _/_, _≤_};
+ghost use lib.ListN.{length};
+ghost use Rattle.words.specs.Word.{wordsOf};
+ghost use Rattle.pruning.specs.Cells.{cellType, cellFine, countAt, rowFine, rowsFine, upToTwo, answersFine};
+ghost use Rattle.cells.specs.Counts.{countValue};
+ghost use Rattle.cells.specs.Grids.{listOf, gridHolds, answersHold};
+
+// A count of blanks or rows, read unsigned.
+pub enum Count {
+    Absent,
+    Of(u64),
+}
+
+// The type of a statistic's cells: its column's for a least or greatest value, an integer for a count.
+fn cell_type(schema: &[u8], s: Statistic) -> u8
+    ensures { λ r. ⌜ r ≡ cellType (now (schema .entry)) s ⌝ }
+{
+    match s {
+        Statistic::Least(c) => suiting::type_in(schema, c.0),
+        Statistic::Greatest(c) => suiting::type_in(schema, c.0),
+        Statistic::Blanks(_) => 1,
+        Statistic::Rows => 1,
+    }
+}
+
+// A statistic's cell: absent, or of its type, inside the cell pool.
+pub fn cell_fine(schema: &[u8], pool: &[u8], s: Statistic, w: u64) -> bool
+    ensures { λ r. ⌜ r ≡ cellFine (now (schema .entry)) (now (pool .entry)) s w ⌝ }
+{
+    suiting::word_suits(pool, cell_type(schema, s), w)
+}
+
+// Every cell of the row that begins at a place of the grid.
+fn row_fine(schema: &[u8], pool: &[u8], list: &[u8], grid: &[u8], at: usize) -> bool
+    requires { ⌜ at + length (now list) / 8 ≤ length (now grid) / 8 ⌝ }
+    ensures { λ r. ⌜ r ≡ rowFine (now (schema .entry)) (now (pool .entry)) (listOf (now (list .entry))) (wordsOf (now (grid .entry))) (listOf (now (list .entry))) at ⌝ }
+{
+    let mut i = 0;
+    while i < list.len() / 8 {
+        let s = statistics::statistic_of(words::word_at(list, 8 * i));
+        if !cell_fine(schema, pool, s, words::word_at(grid, 8 * (at + i))) {
+            return false;
+        }
+        i += 1;
+    }
+    true
+}
+
+// Every row of a grid that holds a row for each container.
+fn rows_fine(schema: &[u8], pool: &[u8], list: &[u8], grid: &[u8], containers: usize) -> bool
+    requires { ⌜ containers * (length (now list) / 8) ≤ length (now grid) / 8 ⌝ }
+    ensures { λ r. ⌜ r ≡ rowsFine (now (schema .entry)) (now (pool .entry)) (listOf (now (list .entry))) (wordsOf (now (grid .entry))) containers 0 ⌝ }
+{
+    let mut left = containers;
+    let mut at = 0;
+    while 0 < left {
+        if !row_fine(schema, pool, list, grid, at) {
+            return false;
+        }
+        at += list.len() / 8;
+        left -= 1;
+    }
+    true
+}
+
+// A cell for each container and statistic, each of them fine.
+pub fn grid_fine(schema: &[u8], pool: &[u8], list: &[u8], containers: usize, grid: &[u8]) -> bool
+    requires { ⌜ (containers ≤ 4096) × (length (now list) ≤ 1544) ⌝ }
+    ensures { λ r. ⌜ r ≡ gridHolds (now (schema .entry)) (now (pool .entry)) (listOf (now (list .entry))) containers (now (grid .entry)) ⌝ }
+{
+    if grid.len() != 8 * (containers * (list.len() / 8)) {
+        return false;
+    }
+    rows_fine(schema, pool, list, grid, containers)
+}
+
+// Every byte is at most 2.
+fn up_to_two(answers: &[u8]) -> bool
+    ensures { λ r. ⌜ r ≡ upToTwo (now (answers .entry)) ⌝ }
+{
+    let mut i = 0;
+    while i < answers.len() {
+        if 2 < answers[i] {
+            return false;
+        }
+        i += 1;
+    }
+    true
+}
+
+// No answer at all, or one for each container and guarantee.
+fn answers_hold(len: usize, containers: usize, guarantees: usize) -> bool
+    requires { ⌜ (containers ≤ 4096) × (guarantees ≤ 128) ⌝ }
+    ensures { λ r. ⌜ r ≡ answersHold len containers guarantees ⌝ }
+{
+    if len == 0 {
+        return true;
+    }
+    len == containers * guarantees
+}
+
+// Answers: none at all, or a byte up to 2 for each container and guarantee.
+pub fn answers_fine(containers: usize, guarantees: usize, answers: &[u8]) -> bool
+    requires { ⌜ (containers ≤ 4096) × (guarantees ≤ 128) ⌝ }
+    ensures { λ r. ⌜ r ≡ answersFine containers guarantees (now (answers .entry)) ⌝ }
+{
+    if !answers_hold(answers.len(), containers, guarantees) {
+        return false;
+    }
+    up_to_two(answers)
+}
+
+// The count that a cell holds.
+pub fn count_at(pool: &[u8], w: u64) -> Count
+    ensures { λ r. ⌜ countValue r ≡ countAt (now (pool .entry)) w ⌝ }
+{
+    if literals::type_of(w) == 0 {
+        return Count::Absent;
+    }
+    Count::Of(words::padded_word(pool, literals::offset_of(w)))
+}

@@ -1,0 +1,107 @@
+-- Comparisons of values by the orders of their types, and operators that are asked of an order. Assumes nothing.
+use mathlib.Core.Path.{_≡_, refl, sym, ap, _∙_}
+use mathlib.Core.Bool.{Bool, true, false, cond, not, _&&_}
+use mathlib.Core.Option.{Option, some, none}
+use mathlib.Core.List.{List, []}
+use Prim.Native.Nat.{ℕ, _+_, _-_, _≤_, _<_}
+use native.Mathlib.Nat.{zero-add}
+use native.Mathlib.Omega.{arith}
+use lib.ListN.{length, take, drop, length-drop, drop-of-length-le}
+use lib.Seq.{take-all, take-nil}
+use lib.Dec.{eqb, leb, ltb}
+use lib.IntN.{ℤ, pos}
+use borrow.Author.Tests.{leb-true, leb-false, eq-eqb, ne-eqb}
+use Rattle.words.specs.Word.{rangeOf}
+use Rattle.words.specs.Pools.{Inside}
+use Rattle.words.specs.Bytes.{byteOrder, below}
+use Rattle.words.specs.declared.Range.{Range}
+use Rattle.words.specs.declared.Order.{Order}
+use Rattle.words.specs.declared.Order.the-variants.{Less, Equal as Same, Greater}
+use Rattle.operators.specs.Operators.{swapOf}
+use Rattle.operators.specs.declared.Operator.{Operator}
+use Rattle.operators.specs.declared.Operator.the-variants.{Equal, NotEqual, Below, AtMost, Above, AtLeast, Distinct, NotDistinct}
+use Rattle.kleene.specs.declared.Truth.{Truth}
+use Rattle.kleene.specs.Truths.{truthOf}
+use Rattle.literals.specs.Signed.{intOrder}
+use Rattle.literals.specs.Literals.{Value, int}
+use Rattle.orders.specs.Order.{orderBy, compares-test}
+use Rattle.orders.specs.Instances.{numbers, texts, truths, ltZ-numbers, below-texts}
+use Rattle.orders.specs.Values.{orderOf, byOrder, compared, comparedFrom}
+use Rattle.orders.specs.ValueLaws.{order-of-turned}
+use Rattle.comparing.specs.declared.Compared.{Compared}
+use Rattle.comparing.specs.declared.Compared.the-variants.{Apart, By}
+
+-- ---- ranges
+
+-- a range inside a pool that names the same bytes
+pub record Clipped (pool : List ℕ) (r c : Range) : Type 0 where
+  pub inside : Inside pool c
+  pub same : rangeOf pool c ≡ rangeOf pool r
+
+-- past the pool's end, and over it
+pub clipped-past : (pool : List ℕ) (at len : ℕ) → length pool ≤ at → Clipped pool (record { at = at; len = len }) (record { at = 0; len = 0 })
+clipped-past pool at len h = record { inside = omega arith; same = sym (ap (take len) (drop-of-length-le pool h) ∙ take-nil len) }
+
+pub clipped-over : (pool : List ℕ) (at len : ℕ) → at < length pool → length pool - at < len
+    → Clipped pool (record { at = at; len = len }) (record { at = at; len = length pool - at })
+clipped-over pool at len h k =
+    let e : length (drop at pool) ≡ length pool - at = length-drop at pool in
+    record { inside = omega arith; same = take-all (length pool - at) (drop at pool) (omega arith) ∙ sym (take-all len (drop at pool) (omega arith)) }
+
+-- ---- orders
+
+-- how two values compare: an order, or none
+abbrev pub orderIn : Compared → Option Order
+orderIn Apart = none
+orderIn (By r) = some r
+
+pub int-order : (a b : ℤ) → intOrder a b ≡ orderBy numbers a b
+unfolding intOrder orderBy
+int-order a b = rw (ltZ-numbers a b, ltZ-numbers b a)
+
+pub text-order : (a b : List ℕ) → byteOrder a b ≡ orderBy texts a b
+unfolding byteOrder orderBy
+text-order a b = rw (below-texts a b, below-texts b a)
+
+-- ---- operators
+
+-- an operator that is asked of an order: distinct-from is not
+abbrev pub Asks : Operator → Type 0
+Asks Equal = Unit {0}
+Asks NotEqual = Unit {0}
+Asks Below = Unit {0}
+Asks AtMost = Unit {0}
+Asks Above = Unit {0}
+Asks AtLeast = Unit {0}
+Asks Distinct = ⊥
+Asks NotDistinct = ⊥
+
+pub asks-order : (o : Operator) (v w : Value) → Asks o → compared o v w ≡ byOrder o (orderOf v w)
+asks-order Equal v w h = refl
+asks-order NotEqual v w h = refl
+asks-order Below v w h = refl
+asks-order AtMost v w h = refl
+asks-order Above v w h = refl
+asks-order AtLeast v w h = refl
+asks-order Distinct v w h = absurd h
+asks-order NotDistinct v w h = absurd h
+
+-- the literal k on the left
+pub asks-first : (o : Operator) (v k : Value) → Asks o → comparedFrom true o v k ≡ byOrder (swapOf o) (orderOf v k)
+asks-first o v k h = asks-order o k v h ∙ sym (order-of-turned k v o)
+
+-- ---- counts
+
+pub positive-is : (n : ℕ) → compared Above (int (pos n)) (int (pos 0)) ≡ truthOf (ltb 0 n)
+positive-is n = ap truthOf (compares-test numbers Above (pos n) (pos 0) ∙ sym (ltZ-numbers (pos 0) (pos n)))
+
+same-both : (m n : ℕ) → (leb m n && leb n m) ≡ eqb m n
+same-both m n = go (leb m n) (leb n m) refl refl
+  where
+    go : (x y : Bool) → leb m n ≡ x → leb n m ≡ y → (x && y) ≡ eqb m n
+    go true true e f = let p = leb-true m n e in let q = leb-true n m f in sym (eq-eqb m n (omega arith))
+    go true false e f = let q = leb-false n m f in sym (ne-eqb m n (λ z. omega arith))
+    go false y e f = let p = leb-false m n e in sym (ne-eqb m n (λ z. omega arith))
+
+pub differ-is : (m n : ℕ) → compared NotEqual (int (pos m)) (int (pos n)) ≡ truthOf (not (eqb m n))
+differ-is m n = ap truthOf (compares-test numbers NotEqual (pos m) (pos n) ∙ ap not (same-both m n))

@@ -1,0 +1,5 @@
+pub mod Rule
+pub mod Walk
+pub mod Last
+pub mod Whole
+pub mod Bound

@@ -1,0 +1,87 @@
+-- Laws of what is known, in the code's terms. Assumes nothing.
+use mathlib.Core.Path.{_≡_, refl, sym, _∙_}
+use mathlib.Core.Bool.{Bool, true, false}
+use mathlib.Core.List.{List}
+use mathlib.Core.Option.{Option}
+use Prim.Native.Nat.{ℕ, _-_, _≤_, _<_, min}
+use native.Mathlib.Omega.{arith}
+use lib.ListN.{length, take, drop, length-drop, drop-of-length-le}
+use lib.Seq.{take-all}
+use lib.Dec.{ltb}
+use borrow.Author.Tests.{ltb-true, ltb-false, le-leb, lt-leb}
+use Rattle.increment.specs.declared.End.{End}
+use Rattle.increment.specs.declared.End.the-variants.{Until, Absent}
+use Rattle.increment.specs.Outcome.{endOf, until-some, absent-none}
+use Rattle.operators.specs.declared.Operator.{Operator}
+use Rattle.literals.specs.declared.Literal.{Literal}
+use Rattle.predicate.specs.Predicates.{valuesAt, length-values}
+use Rattle.predicate.specs.declared.Column.{Column}
+use Rattle.table.specs.declared.Known.the-variants.{True, Open}
+use Rattle.table.specs.Tables.{Table, known}
+use Rattle.table.specs.Comparisons.{Turned as Turning, turnedForm}
+use Rattle.table.specs.Rewriting.{nestedTable, listTable}
+use Rattle.turning.specs.Turns.{turnedOf}
+use Rattle.turning.specs.declared.Turned.{Turned}
+use Rattle.turning.specs.declared.Turned.the-variants.{Against, Unhandled}
+use Rattle.knowing.specs.Knowns.{known-turned, knownBounded}
+
+-- ---- a range cut to its pool
+
+drop-cut : (at : ℕ) (l : List ℕ) → drop (min at (length l)) l ≡ drop at l
+drop-cut at l = go (ltb at (length l)) refl
+  where
+    go : (b : Bool) → ltb at (length l) ≡ b → drop (min at (length l)) l ≡ drop at l
+    go true q = let h = ltb-true at (length l) q in let e : min at (length l) ≡ at = omega arith in rw e
+    go false q =
+        let h = ltb-false at (length l) q in
+        let e : min at (length l) ≡ length l = omega arith in
+        let z : length l ≤ length l = omega arith in
+        rw (e, drop-of-length-le l z, drop-of-length-le l h)
+
+take-cut : (n : ℕ) (l : List ℕ) → take (min n (length l)) l ≡ take n l
+take-cut n l = go (ltb n (length l)) refl
+  where
+    go : (b : Bool) → ltb n (length l) ≡ b → take (min n (length l)) l ≡ take n l
+    go true q = let h = ltb-true n (length l) q in let e : min n (length l) ≡ n = omega arith in rw e
+    go false q =
+        let h = ltb-false n (length l) q in
+        let e : min n (length l) ≡ length l = omega arith in
+        rw (e, take-all n l h) (take-all (length l) l (omega arith))
+
+pub range-cut : (l : List ℕ) (at n : ℕ) → take (min n (length l - min at (length l))) (drop (min at (length l)) l) ≡ take n (drop at l)
+range-cut l at n =
+    let e : length l - min at (length l) ≡ length (drop at l) = rw length-drop (omega arith) in
+    rw (drop-cut at l, e) (take-cut n (drop at l))
+
+-- ---- comparisons and patterns
+
+pub turned-open : (pool : List ℕ) (c : Column) (t : Turning) (r : Turned) (o : Operator) (l : Literal) → turnedOf pool r ≡ t → r ≡ Against o l
+    → Open ≡ known (turnedForm c t)
+turned-open pool c t r o l e q = sym (known-turned c t ∙ rw (← e, q))
+
+pub turned-true : (pool : List ℕ) (c : Column) (t : Turning) (r : Turned) → turnedOf pool r ≡ t → r ≡ Unhandled → True ≡ known (turnedForm c t)
+turned-true pool c t r e q = sym (known-turned c t ∙ rw (← e, q))
+
+pub bounded-open : (o : Option (List ℕ)) (r : End) (n : ℕ) → r ≡ endOf o → r ≡ Until n → Open ≡ knownBounded o
+bounded-open o r n e q = rw (until-some o n (sym q ∙ e) .1)
+
+pub bounded-true : (o : Option (List ℕ)) (r : End) → r ≡ endOf o → r ≡ Absent → True ≡ knownBounded o
+bounded-true o r e q = rw (absent-none o (sym q ∙ e))
+
+-- ---- lists
+
+module _ (limit : ℕ) (schema pool ws : List ℕ) (b : Bool) (c : Column) (n m at : ℕ) where
+  abbrev table : Table
+  table = listTable limit schema b c n (valuesAt pool ws m at)
+
+  -- no literal
+  pub list-none : m ≡ 0 → True ≡ known table
+  unfolding valuesAt
+  list-none e = rw (e, le-leb 0 limit (omega arith))
+
+  -- over the limit
+  pub list-over : limit < m → True ≡ known table
+  list-over h = let k : limit < length (valuesAt pool ws m at) = rw length-values h in rw (lt-leb _ _ k)
+
+  pub list-within : m ≤ limit → known table ≡ known (nestedTable schema b c n (valuesAt pool ws m at))
+  list-within h = let k : length (valuesAt pool ws m at) ≤ limit = rw length-values h in rw (le-leb _ _ k)

@@ -1,0 +1,18 @@
+-- Past the end a list has its default. Assumes nothing.
+use borrow.Author.Needs.{needs}
+use mathlib.Core.Path.{sym}
+use lib.ListN.{List·getD-eq-default}
+use Rattle.suiting.proofs.type_in.Statement.{statement}
+use Rattle.suiting.proofs.type_in.Tie as tie
+
+returns-2 : tie.Need-returns-2
+returns-2 c =
+    sym (List·getD-eq-default (c .before .args .schema .now) 0 (c .if1 .left))
+
+pub type-in-spec : {M : Type 1} → statement M
+type-in-spec =
+    tie.close
+    (tie.spec
+    (λ c. search needs)
+    (λ c. search needs)
+    returns-2)
