@@ -1,9 +1,10 @@
 // Cells, the grid and the answers: what is accepted, and the counts that cells hold.
-use statistics::Place;
+use literals::Literal;
 use statistics::Statistic;
 ghost use mathlib.Core.Path.{_≡_};
 ghost use Prim.Native.Nat.{_+_, _*_, _/_, _≤_};
 ghost use lib.ListN.{length};
+ghost use Rattle.limits.specs.Limits.{maxContainers, statisticsRoom};
 ghost use Rattle.words.specs.Word.{wordsOf};
 ghost use Rattle.pruning.specs.Cells.{cellType, cellFine, countAt, rowFine, rowsFine, upToTwo, answersFine};
 ghost use Rattle.cells.specs.Counts.{countValue};
@@ -22,8 +23,8 @@ fn cell_type(schema: &[u8], s: Statistic) -> u8
     match s {
         Statistic::Least(c) => suiting::type_in(schema, c.0),
         Statistic::Greatest(c) => suiting::type_in(schema, c.0),
-        Statistic::Blanks(_) => 1,
-        Statistic::Rows => 1,
+        Statistic::Blanks(_) => Literal::INTEGER,
+        Statistic::Rows => Literal::INTEGER,
     }
 }
 
@@ -69,7 +70,7 @@ fn rows_fine(schema: &[u8], pool: &[u8], list: &[u8], grid: &[u8], containers: u
 
 // A cell for each container and statistic, each of them fine.
 pub fn grid_fine(schema: &[u8], pool: &[u8], list: &[u8], containers: usize, grid: &[u8]) -> bool
-    requires { ⌜ (containers ≤ 4096) × (length (now list) ≤ 1544) ⌝ }
+    requires { ⌜ (containers ≤ maxContainers) × (length (now list) ≤ statisticsRoom) ⌝ }
     ensures { λ r. ⌜ r ≡ gridHolds (now (schema .entry)) (now (pool .entry)) (listOf (now (list .entry))) containers (now (grid .entry)) ⌝ }
 {
     if grid.len() != 8 * (containers * (list.len() / 8)) {
@@ -94,7 +95,7 @@ fn up_to_two(answers: &[u8]) -> bool
 
 // No answer at all, or one for each container and guarantee.
 fn answers_hold(len: usize, containers: usize, guarantees: usize) -> bool
-    requires { ⌜ (containers ≤ 4096) × (guarantees ≤ 128) ⌝ }
+    requires { ⌜ (containers ≤ maxContainers) × (guarantees ≤ 128) ⌝ }
     ensures { λ r. ⌜ r ≡ answersHold len containers guarantees ⌝ }
 {
     if len == 0 {
@@ -105,7 +106,7 @@ fn answers_hold(len: usize, containers: usize, guarantees: usize) -> bool
 
 // Answers: none at all, or a byte up to 2 for each container and guarantee.
 pub fn answers_fine(containers: usize, guarantees: usize, answers: &[u8]) -> bool
-    requires { ⌜ (containers ≤ 4096) × (guarantees ≤ 128) ⌝ }
+    requires { ⌜ (containers ≤ maxContainers) × (guarantees ≤ 128) ⌝ }
     ensures { λ r. ⌜ r ≡ answersFine containers guarantees (now (answers .entry)) ⌝ }
 {
     if !answers_hold(answers.len(), containers, guarantees) {
@@ -118,7 +119,7 @@ pub fn answers_fine(containers: usize, guarantees: usize, answers: &[u8]) -> boo
 pub fn count_at(pool: &[u8], w: u64) -> Count
     ensures { λ r. ⌜ countValue r ≡ countAt (now (pool .entry)) w ⌝ }
 {
-    if literals::type_of(w) == 0 {
+    if literals::type_of(w) == Literal::NULL {
         return Count::Absent;
     }
     Count::Of(words::padded_word(pool, literals::offset_of(w)))

@@ -100,6 +100,6 @@ pub fn evaluate<'a>(list: &[u8], pool: &'a [u8], table: &[u8], cells: &'a [u8], 
     requires { ⌜ Ready (listOf (now list)) (now pool) (wordsOf (now table)) maxTableDepth 0 ⌝ }
     ensures { λ r. ⌜ r ≡ worth (rowCells (now (cells .entry)) (listOf (now (list .entry))) (wordsOf (now (row .entry)))) (tableAt (listOf (now (list .entry))) (now (pool .entry)) (wordsOf (now (table .entry))) maxTableDepth 0 .table) ⌝ }
 {
-    let v = worth_at(list, pool, table, cells, row, 289, 0);
+    let v = worth_at(list, pool, table, cells, row, limits::MAX_TABLE_DEPTH, 0);
     v.value
 }

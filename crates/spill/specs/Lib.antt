@@ -2,3 +2,4 @@ pub mod Rewrite
 pub mod Prune
 pub mod Bounds
 pub mod Done
+pub mod Pruning

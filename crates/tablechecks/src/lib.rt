@@ -1,4 +1,5 @@
 // Checked tables: all rules for a table, its statistics list and its guarantees.
+use literals::Literal;
 use pruning::Reached;
 use pruning::TableNode;
 use statistics::Place;
@@ -91,7 +92,7 @@ fn table_literal(schema: &[u8], pool: &[u8], s: Statistic, w: u64) -> bool
     ensures { λ r. ⌜ r ≡ tableLiteral (now (schema .entry)) (now (pool .entry)) s w ⌝ }
 {
     if suiting::word_suits(pool, bound_type(schema, s), w) {
-        literals::length_of(w) <= 1025
+        literals::length_of(w) <= limits::MAX_TABLE_TEXT_BYTES
     } else {
         false
     }
@@ -142,7 +143,7 @@ fn table_named(
         }
         TableNode::Holds(p) => {
             if names_bound(list, p) {
-                bound_type(schema, statistics::statistic_at(list, p)) == 3
+                bound_type(schema, statistics::statistic_at(list, p)) == Literal::TRUTH
             } else {
                 false
             }
@@ -206,7 +207,7 @@ pub fn check_table(
 pub fn table_fine(schema: &[u8], list: &[u8], pool: &[u8], table: &[u8]) -> bool
     ensures { λ r. ⌜ r ≡ tableFine (now (schema .entry)) (listOf (now (list .entry))) (now (pool .entry)) (wordsOf (now (table .entry))) ⌝ }
 {
-    match check_table(schema, list, pool, table, 289, 0) {
+    match check_table(schema, list, pool, table, limits::MAX_TABLE_DEPTH, 0) {
         Reached::Broken => false,
         Reached::At(m) => m == table.len() / 8,
     }
@@ -232,16 +233,16 @@ pub fn checked_table(
 ) -> bool
     ensures { λ r. ⌜ r ≡ checkedTable (now (schema .entry)) (now (table .entry)) (now (pool .entry)) (now (list .entry)) (now (guarantees .entry)) ⌝ }
 {
-    if !words_within(table, 24576) {
+    if !words_within(table, limits::TABLE_ROOM) {
         return false;
     }
-    if 16512 < pool.len() {
+    if limits::TABLE_POOL_ROOM < pool.len() {
         return false;
     }
-    if !words_within(list, 1544) {
+    if !words_within(list, limits::STATISTICS_ROOM) {
         return false;
     }
-    if !words_within(guarantees, 1024) {
+    if !words_within(guarantees, limits::GUARANTEES_ROOM) {
         return false;
     }
     if !pruning::statistics_fine(schema, list) {
