@@ -9,13 +9,13 @@ use writing::Spot;
 ghost use mathlib.Core.Path.{_≡_};
 ghost use mathlib.Core.Bool.{true, false};
 ghost use Rattle.kleene.specs.declared.Joining.the-variants.{Or};
-ghost use Rattle.literals.specs.Literals.{valueOf};
+ghost use Rattle.literals.specs.Literals.{valueOf, LiteralFits};
 ghost use Rattle.statistics.specs.declared.Statistic.the-variants.{Least, Greatest};
 ghost use Rattle.table.specs.Tables.{both, against};
 ghost use Rattle.table.specs.Comparisons.{equalForm, unequalForm, hasBlanks, wrapped, distinctForm, notDistinctForm, comparisonForm, turnedForm};
 ghost use Rattle.listing.specs.Listing.{listOf, Few};
-ghost use Rattle.turning.specs.Turns.{turnedOf, TurnedInside, TurnedFits};
-ghost use Rattle.writing.specs.Writing.{Room, Ready, Wrote};
+ghost use Rattle.turning.specs.Turns.{turnedOf, TurnedFits};
+ghost use Rattle.writing.specs.Writing.{Room, Wrote};
 ghost use Rattle.forms.specs.Forms.{isNull};
 
 // Whether a literal is null.
@@ -42,7 +42,7 @@ fn write_bounds(
     pool: &mut [u8],
     s: Spot,
 ) -> Spot
-    requires { ⌜ Few (now list) × Ready (now input) l × Room (both j (against o (Least c) false (valueOf (now input) l)) (against o (Greatest c) true (valueOf (now input) l))) s (now table) (now pool) ⌝ }
+    requires { ⌜ Few (now list) × LiteralFits l × Room (both j (against o (Least c) false (valueOf (now input) l)) (against o (Greatest c) true (valueOf (now input) l))) s (now table) (now pool) ⌝ }
     ensures { λ r. ⌜ Wrote (both j (against o (Least c) false (valueOf (now (input .entry)) l)) (against o (Greatest c) true (valueOf (now (input .entry)) l))) (listOf (now (list .entry))) s (now (table .entry)) (now (table .exit)) (now (pool .entry)) (now (pool .exit)) r ⌝ }
 {
     let least = Statistic::Least(c);
@@ -62,7 +62,7 @@ pub fn build_eq_statistics_expr(
     pool: &mut [u8],
     s: Spot,
 ) -> Spot
-    requires { ⌜ Few (now list) × Ready (now input) l × Room (equalForm c (valueOf (now input) l)) s (now table) (now pool) ⌝ }
+    requires { ⌜ Few (now list) × LiteralFits l × Room (equalForm c (valueOf (now input) l)) s (now table) (now pool) ⌝ }
     ensures { λ r. ⌜ Wrote (equalForm c (valueOf (now (input .entry)) l)) (listOf (now (list .entry))) s (now (table .entry)) (now (table .exit)) (now (pool .entry)) (now (pool .exit)) r ⌝ }
 {
     let o = Operator::AtMost;
@@ -79,7 +79,7 @@ pub fn build_ne_statistics_expr(
     pool: &mut [u8],
     s: Spot,
 ) -> Spot
-    requires { ⌜ Few (now list) × Ready (now input) l × Room (unequalForm c (valueOf (now input) l)) s (now table) (now pool) ⌝ }
+    requires { ⌜ Few (now list) × LiteralFits l × Room (unequalForm c (valueOf (now input) l)) s (now table) (now pool) ⌝ }
     ensures { λ r. ⌜ Wrote (unequalForm c (valueOf (now (input .entry)) l)) (listOf (now (list .entry))) s (now (table .entry)) (now (table .exit)) (now (pool .entry)) (now (pool .exit)) r ⌝ }
 {
     let o = Operator::NotEqual;
@@ -96,7 +96,7 @@ fn write_equal(
     pool: &mut [u8],
     s: Spot,
 ) -> Spot
-    requires { ⌜ Few (now list) × Ready (now input) l × Room (wrapped c (equalForm c (valueOf (now input) l))) s (now table) (now pool) ⌝ }
+    requires { ⌜ Few (now list) × LiteralFits l × Room (wrapped c (equalForm c (valueOf (now input) l))) s (now table) (now pool) ⌝ }
     ensures { λ r. ⌜ Wrote (wrapped c (equalForm c (valueOf (now (input .entry)) l))) (listOf (now (list .entry))) s (now (table .entry)) (now (table .exit)) (now (pool .entry)) (now (pool .exit)) r ⌝ }
 {
     let a = writing::wrap_null_count_check_expr(list, c, table, s);
@@ -113,7 +113,7 @@ fn write_unequal(
     pool: &mut [u8],
     s: Spot,
 ) -> Spot
-    requires { ⌜ Few (now list) × Ready (now input) l × Room (wrapped c (unequalForm c (valueOf (now input) l))) s (now table) (now pool) ⌝ }
+    requires { ⌜ Few (now list) × LiteralFits l × Room (wrapped c (unequalForm c (valueOf (now input) l))) s (now table) (now pool) ⌝ }
     ensures { λ r. ⌜ Wrote (wrapped c (unequalForm c (valueOf (now (input .entry)) l))) (listOf (now (list .entry))) s (now (table .entry)) (now (table .exit)) (now (pool .entry)) (now (pool .exit)) r ⌝ }
 {
     let a = writing::wrap_null_count_check_expr(list, c, table, s);
@@ -131,7 +131,7 @@ fn write_least(
     pool: &mut [u8],
     s: Spot,
 ) -> Spot
-    requires { ⌜ Few (now list) × Ready (now input) l × Room (wrapped c (against o (Least c) false (valueOf (now input) l))) s (now table) (now pool) ⌝ }
+    requires { ⌜ Few (now list) × LiteralFits l × Room (wrapped c (against o (Least c) false (valueOf (now input) l))) s (now table) (now pool) ⌝ }
     ensures { λ r. ⌜ Wrote (wrapped c (against o (Least c) false (valueOf (now (input .entry)) l))) (listOf (now (list .entry))) s (now (table .entry)) (now (table .exit)) (now (pool .entry)) (now (pool .exit)) r ⌝ }
 {
     let a = writing::wrap_null_count_check_expr(list, c, table, s);
@@ -150,7 +150,7 @@ fn write_greatest(
     pool: &mut [u8],
     s: Spot,
 ) -> Spot
-    requires { ⌜ Few (now list) × Ready (now input) l × Room (wrapped c (against o (Greatest c) false (valueOf (now input) l))) s (now table) (now pool) ⌝ }
+    requires { ⌜ Few (now list) × LiteralFits l × Room (wrapped c (against o (Greatest c) false (valueOf (now input) l))) s (now table) (now pool) ⌝ }
     ensures { λ r. ⌜ Wrote (wrapped c (against o (Greatest c) false (valueOf (now (input .entry)) l))) (listOf (now (list .entry))) s (now (table .entry)) (now (table .exit)) (now (pool .entry)) (now (pool .exit)) r ⌝ }
 {
     let a = writing::wrap_null_count_check_expr(list, c, table, s);
@@ -168,7 +168,7 @@ fn write_blanks_or_unequal(
     pool: &mut [u8],
     s: Spot,
 ) -> Spot
-    requires { ⌜ Few (now list) × Ready (now input) l × Room (both Or (hasBlanks c) (unequalForm c (valueOf (now input) l))) s (now table) (now pool) ⌝ }
+    requires { ⌜ Few (now list) × LiteralFits l × Room (both Or (hasBlanks c) (unequalForm c (valueOf (now input) l))) s (now table) (now pool) ⌝ }
     ensures { λ r. ⌜ Wrote (both Or (hasBlanks c) (unequalForm c (valueOf (now (input .entry)) l))) (listOf (now (list .entry))) s (now (table .entry)) (now (table .exit)) (now (pool .entry)) (now (pool .exit)) r ⌝ }
 {
     let a = writing::put_join(table, s, Joining::Or);
@@ -186,7 +186,7 @@ pub fn build_is_distinct_from(
     pool: &mut [u8],
     s: Spot,
 ) -> Spot
-    requires { ⌜ Few (now list) × Ready (now input) l × Room (distinctForm c (valueOf (now input) l)) s (now table) (now pool) ⌝ }
+    requires { ⌜ Few (now list) × LiteralFits l × Room (distinctForm c (valueOf (now input) l)) s (now table) (now pool) ⌝ }
     ensures { λ r. ⌜ Wrote (distinctForm c (valueOf (now (input .entry)) l)) (listOf (now (list .entry))) s (now (table .entry)) (now (table .exit)) (now (pool .entry)) (now (pool .exit)) r ⌝ }
 {
     if is_null(l) {
@@ -205,7 +205,7 @@ pub fn build_is_not_distinct_from(
     pool: &mut [u8],
     s: Spot,
 ) -> Spot
-    requires { ⌜ Few (now list) × Ready (now input) l × Room (notDistinctForm c (valueOf (now input) l)) s (now table) (now pool) ⌝ }
+    requires { ⌜ Few (now list) × LiteralFits l × Room (notDistinctForm c (valueOf (now input) l)) s (now table) (now pool) ⌝ }
     ensures { λ r. ⌜ Wrote (notDistinctForm c (valueOf (now (input .entry)) l)) (listOf (now (list .entry))) s (now (table .entry)) (now (table .exit)) (now (pool .entry)) (now (pool .exit)) r ⌝ }
 {
     if is_null(l) {
@@ -225,7 +225,7 @@ pub fn write_comparison(
     pool: &mut [u8],
     s: Spot,
 ) -> Spot
-    requires { ⌜ Few (now list) × Ready (now input) l × Room (comparisonForm c o (valueOf (now input) l)) s (now table) (now pool) ⌝ }
+    requires { ⌜ Few (now list) × LiteralFits l × Room (comparisonForm c o (valueOf (now input) l)) s (now table) (now pool) ⌝ }
     ensures { λ r. ⌜ Wrote (comparisonForm c o (valueOf (now (input .entry)) l)) (listOf (now (list .entry))) s (now (table .entry)) (now (table .exit)) (now (pool .entry)) (now (pool .exit)) r ⌝ }
 {
     match o {
@@ -250,7 +250,7 @@ pub fn write_turned(
     pool: &mut [u8],
     s: Spot,
 ) -> Spot
-    requires { ⌜ Few (now list) × TurnedInside (now input) t × TurnedFits t × Room (turnedForm c (turnedOf (now input) t)) s (now table) (now pool) ⌝ }
+    requires { ⌜ Few (now list) × TurnedFits t × Room (turnedForm c (turnedOf (now input) t)) s (now table) (now pool) ⌝ }
     ensures { λ r. ⌜ Wrote (turnedForm c (turnedOf (now (input .entry)) t)) (listOf (now (list .entry))) s (now (table .entry)) (now (table .exit)) (now (pool .entry)) (now (pool .exit)) r ⌝ }
 {
     match t {

@@ -1,7 +1,7 @@
 -- How written parts join: words in front of a table, a join of two tables, and the room that is left behind each. Assumes nothing.
 use mathlib.Core.Path.{_≡_, refl, _∙_}
 use mathlib.Core.List.{List, [], _∷_, _++_}
-use Prim.Native.Nat.{ℕ, _+_, _*_}
+use Prim.Native.Nat.{ℕ, zero, suc, _+_, _*_}
 use native.Mathlib.Nat.{add-zero}
 use native.Mathlib.Omega.{arith}
 use lib.ListN.{length, length-append}
@@ -9,6 +9,9 @@ use lib.Seq.{sets, length-sets}
 use Rattle.words.specs.Word.{bytesOf}
 use Rattle.words.specs.WordLaws.{bytes-append, length-bytes}
 use Rattle.words.specs.Stores.{sets-then}
+use Rattle.words.specs.LayoutLaws.{field-below}
+use Rattle.literals.specs.Literals.{literalLayout, typeOf, literalOf, LiteralFits}
+use Rattle.literals.specs.LiteralLaws.{literal-null, literal-int, literal-text, literal-truth}
 use Rattle.kleene.specs.declared.Joining.{Joining}
 use Rattle.kleene.specs.declared.Joining.the-variants.{And}
 use Rattle.predicate.specs.declared.Column.{Column}
@@ -144,3 +147,15 @@ module _ (j : Joining) (x y : Table) (s t : Spot) (old mid pool : List ℕ) (m :
       let a′ = rw (h .answer, h .table) at a in
       rw (a′ .answer, a′ .table, a′ .pool)
       (record { words = rw (length-sets, length-sets) (omega arith); bytes = rw length-sets (omega arith); small = omega arith })
+
+-- ---- literals that were read from a word fit one
+
+pub literal-fits : (pool : List ℕ) (w : ℕ) → LiteralFits (literalOf pool w)
+literal-fits pool w = go (typeOf w) refl
+  where
+    go : (k : ℕ) → typeOf w ≡ k → LiteralFits (literalOf pool w)
+    go zero e = rw (literal-null pool w e) tt
+    go (suc zero) e = rw (literal-int pool w e) tt
+    go (suc (suc zero)) e = rw (literal-text pool w e) (field-below literalLayout 1 w (omega arith))
+    go (suc (suc (suc zero))) e = rw (literal-truth pool w e) tt
+    go (suc (suc (suc (suc k)))) e = absurd (omega (arith, field-below literalLayout 0 w (omega arith)))

@@ -5,12 +5,13 @@ use operators::Operator;
 use predicate::Column;
 use statistics::Place;
 use statistics::Statistic;
+use words::Range;
 ghost use mathlib.Core.Path.{_≡_};
 ghost use mathlib.Core.List.{List, [], _∷_};
 ghost use Prim.Native.Nat.{ℕ, _+_, _^_, _≤_, _<_};
 ghost use lib.ListN.{length};
 ghost use lib.Seq.{sets};
-ghost use Rattle.literals.specs.Literals.{valueOf, valueBytes, valueWord, bitOf};
+ghost use Rattle.literals.specs.Literals.{LiteralFits, valueOf, valueBytes, valueWord, bitOf};
 ghost use Rattle.statistics.specs.declared.Statistic.{Statistic as StatisticOf};
 ghost use Rattle.statistics.specs.declared.Statistic.the-variants.{Least, Greatest};
 ghost use Rattle.table.specs.Tables.{always, both, against, holds};
@@ -18,7 +19,7 @@ ghost use Rattle.table.specs.Comparisons.{hasBlanks, hasValues};
 ghost use Rattle.table.specs.Rewriting.{columnTable, notColumnTable};
 ghost use Rattle.table.specs.Encoding.{tableWord};
 ghost use Rattle.listing.specs.Listing.{listOf, Few};
-ghost use Rattle.writing.specs.Writing.{Wide, Room, Ready, Head, Put, Wrote};
+ghost use Rattle.writing.specs.Writing.{Wide, Room, Ready, Cut, Clipped, Head, Put, Wrote};
 ghost use Rattle.writing.specs.WritingLaws.{joinWord, notWord, wrapWords};
 
 // How far writing has come: words of the table, bytes of the pool.
@@ -222,6 +223,35 @@ fn put_literal(input: &[u8], l: Literal, table: &mut [u8], pool: &mut [u8], s: S
     Spot { to, off: end }
 }
 
+// A range cut to what a pool has.
+fn clip_range(input: &[u8], r: Range) -> Range
+    ensures { λ k. ⌜ Cut (now (input .entry)) r k ⌝ }
+{
+    let at = r.at;
+    let len = r.len;
+    if input.len() <= at {
+        return Range { at: 0, len: 0 };
+    }
+    let rest = input.len() - at;
+    if rest < len {
+        return Range { at, len: rest };
+    }
+    r
+}
+
+// A literal whose text is cut to what a pool has.
+fn clip(input: &[u8], l: Literal) -> Literal
+    requires { ⌜ LiteralFits l ⌝ }
+    ensures { λ r. ⌜ Clipped (now (input .entry)) l r ⌝ }
+{
+    match l {
+        Literal::Null => l,
+        Literal::Int(_) => l,
+        Literal::Text(r) => Literal::Text(clip_range(input, r)),
+        Literal::Truth(_) => l,
+    }
+}
+
 // Writes a statistic against a literal of the input pool.
 pub fn write_against(
     list: &[u8],
@@ -234,10 +264,11 @@ pub fn write_against(
     pool: &mut [u8],
     s: Spot,
 ) -> Spot
-    requires { ⌜ Few (now list) × Ready (now input) l × Room (against o x first (valueOf (now input) l)) s (now table) (now pool) ⌝ }
+    requires { ⌜ Few (now list) × LiteralFits l × Room (against o x first (valueOf (now input) l)) s (now table) (now pool) ⌝ }
     ensures { λ r. ⌜ Wrote (against o x first (valueOf (now (input .entry)) l)) (listOf (now (list .entry))) s (now (table .entry)) (now (table .exit)) (now (pool .entry)) (now (pool .exit)) r ⌝ }
 {
+    let k = clip(input, l);
     let place = listing::place_of(list, x);
     let a = put_node(table, s, AGAINST, o.code(), place, Place(0), first);
-    put_literal(input, l, table, pool, a)
+    put_literal(input, k, table, pool, a)
 }

@@ -9,12 +9,12 @@ write-comparison-requires : tie.Need-write-comparison-requires
 write-comparison-requires c κs =
     let s = c .before .before .before .before .before .before .before .before .before in
     let e = c .before .before .before .t .given .1 in
-    (s .pre .0, record { inside = rw e at (s .pre .1); fits = rw e at (s .pre .2) }, rw e at (s .pre .3))
+    (s .pre .0, rw e at (s .pre .1), rw e at (s .pre .2))
 
 write-always-requires : tie.Need-write-always-requires
 write-always-requires c κs =
     let s = c .before .before .before .before .before .before .before in
-    let room = rw (c .before .enum-told .given .1) at (s .pre .3) in
+    let room = rw (c .before .enum-told .given .1) at (s .pre .2) in
     room .words
 
 returns : tie.Need-returns

@@ -10,7 +10,7 @@ use Rattle.listing.specs.Listing.{listOf}
 use Rattle.statistics.specs.declared.Statistic.{Statistic}
 use Rattle.statistics.specs.declared.Statistic.the-variants.{Least, Greatest}
 use Rattle.table.specs.Tables.{Table, against}
-use Rattle.likes.proofs.Laws.{whole-is, whole-ready}
+use Rattle.likes.proofs.Laws.{whole-is, whole-fits}
 use Rattle.writing.specs.WritingLaws.{room-word, room-left, room-right, wrote-both}
 use Rattle.likes.proofs.build_like_match.Statement.{statement}
 use Rattle.likes.proofs.build_like_match.Tie as tie
@@ -33,14 +33,14 @@ write-against-requires : tie.Need-write-against-requires
 write-against-requires c κs =
     let s = c .before .before .before .before .before .before .before .before .before .before .before .before .before in
     let u = c .before .before .before .before .before .before .before .whole .ensures in
-    (s .pre .0, whole-ready _ _ u (s .pre .2), rw (whole-is _ _ u) (room-left And (low s) (high s) _ _ _ _ _ (s .pre .3) (c .before .before .before .before .put-join .ensures)))
+    (s .pre .0, whole-fits (now (s .args .upper)) _ u (s .pre .2), rw (whole-is _ _ u) (room-left And (low s) (high s) _ _ _ _ _ (s .pre .3) (c .before .before .before .before .put-join .ensures)))
 
 write-against-requires-2 : tie.Need-write-against-requires-2
 write-against-requires-2 c κs =
     let s = c .before .before .before .before .before .before .before .before .before .before .before .before .before .before .before .before .before .before .before .before in
     let p = c .before .before .before .before .before .before .before .before .before .before .before .before .before .whole2 .ensures in
     let a = rw (whole-is _ _ (c .before .before .before .before .before .before .before .before .before .before .before .before .before .before .whole .ensures)) at (c .before .before .before .before .before .before .write-against .ensures) in
-    (s .pre .0, whole-ready _ _ p (s .pre .1), rw (whole-is _ _ p) (room-right And (low s) (high s) _ _ _ _ _ (s .pre .3) (c .before .before .before .before .before .before .before .before .before .before .before .put-join .ensures) (listed s) _ _ _ a))
+    (s .pre .0, whole-fits (now (s .args .prefix)) _ p (s .pre .1), rw (whole-is _ _ p) (room-right And (low s) (high s) _ _ _ _ _ (s .pre .3) (c .before .before .before .before .before .before .before .before .before .before .before .put-join .ensures) (listed s) _ _ _ a))
 
 returns : tie.Need-returns
 returns c =
