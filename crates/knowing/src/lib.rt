@@ -114,7 +114,7 @@ fn least(a: usize, b: usize) -> usize
 }
 
 // The bytes that a range names, as far as the pool has them.
-fn clipped(pool: &[u8], r: Range) -> &[u8]
+pub fn clipped(pool: &[u8], r: Range) -> &[u8]
     ensures { λ s. ⌜ now s ≡ rangeOf (now (pool .entry)) r ⌝ }
 {
     let at = least(r.at, pool.len());
