@@ -202,47 +202,15 @@ pub fn emit(
     if depth == 0 {
         return writing::write_always(true, table, s);
     }
+    let d = depth - 1;
     match way_at(schema, input, words, limit, depth, at) {
         Way::Leaf => write_leaf(schema, input, words, limit, depth, at, list, table, pool, s),
         Way::Fixed(b) => writing::write_always(b, table, s),
-        Way::Side(m) => emit(
-            schema,
-            input,
-            words,
-            limit,
-            depth - 1,
-            m,
-            list,
-            table,
-            pool,
-            s,
-        ),
+        Way::Side(m) => emit(schema, input, words, limit, d, m, list, table, pool, s),
         Way::Both(j, m) => {
             let a = writing::put_join(table, s, j);
-            let b = emit(
-                schema,
-                input,
-                words,
-                limit,
-                depth - 1,
-                at + 1,
-                list,
-                table,
-                pool,
-                a,
-            );
-            emit(
-                schema,
-                input,
-                words,
-                limit,
-                depth - 1,
-                m,
-                list,
-                table,
-                pool,
-                b,
-            )
+            let b = emit(schema, input, words, limit, d, at + 1, list, table, pool, a);
+            emit(schema, input, words, limit, d, m, list, table, pool, b)
         }
     }
 }
