@@ -1,3 +1,4 @@
+-- What both sides come to says how they fold. Assumes nothing.
 use borrow.Author.Needs.{needs}
 use denote.Ref.{now}
 use Rattle.words.specs.Word.{wordsOf}

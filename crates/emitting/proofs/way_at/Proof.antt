@@ -1,3 +1,4 @@
+-- A join's way is that of its sides; every other node is a leaf. Assumes nothing.
 use borrow.Author.Needs.{needs}
 use mathlib.Core.Path.{_≡_, sym, _∙_}
 use denote.Ref.{now}

@@ -1,3 +1,4 @@
+-- The form of the turned comparison. Assumes nothing.
 use borrow.Author.Needs.{needs}
 use denote.Ref.{now}
 use Rattle.emitting.proofs.write_compared.Statement.{statement}

@@ -1,3 +1,4 @@
+-- One word, by the constant. Assumes nothing.
 use borrow.Author.Needs.{needs}
 use Rattle.emitting.proofs.write_constant.Statement.{statement}
 use Rattle.emitting.proofs.write_constant.Tie as tie

@@ -1,3 +1,4 @@
+-- Where the node was read, the predicate is the node's; then each arm. Assumes nothing.
 use borrow.Author.Needs.{needs}
 use mathlib.Core.Path.{_≡_, sym, _∙_, subst}
 use mathlib.Core.List.{List}

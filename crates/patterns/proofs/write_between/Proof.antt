@@ -1,3 +1,4 @@
+-- The prefix stands at the front of its buffer, so LIKE's form is over it and the upper bound. Assumes nothing.
 use borrow.Author.Needs.{needs}
 use native.Mathlib.Omega.{arith}
 use mathlib.Core.Path.{refl}

@@ -1,3 +1,4 @@
+-- A text has its pattern's form; all else is unhandled. Assumes nothing.
 use borrow.Author.Needs.{needs}
 use denote.Ref.{now}
 use Rattle.listing.specs.Listing.{listOf}

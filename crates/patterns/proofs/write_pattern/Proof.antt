@@ -1,3 +1,4 @@
+-- Where there is an upper bound the form is over it; else the pattern is unhandled. Assumes nothing.
 use borrow.Author.Needs.{needs}
 use native.Mathlib.Omega.{arith}
 use mathlib.Core.Path.{refl}
