@@ -1,20 +1,22 @@
 -- Demand 1, "every byte sequence": what every call of the two entries answers and leaves, stated once for both, from their contracts.
 -- Assumes nothing.
 use mathlib.Core.Path.{_≡_, refl, sym, _∙_, ap, subst}
-use mathlib.Core.Bool.{Bool, true, false, cond, not, _&&_, true≢false}
+use mathlib.Core.Bool.{Bool, true, false, cond, not, _&&_, _||_, true≢false}
 use mathlib.Core.Logic.{_⊎_, inl, inr, _↔_}
 use mathlib.Core.List.{List, [], _∷_, _++_}
 use Prim.Native.Nat.{ℕ, zero, suc, _+_, _-_, _*_, _/_, _%_, _^_, _<_, _≤_}
 use native.Mathlib.Omega.{arith}
-use lib.ListN.{length, getD, take, drop}
+use lib.ListN.{length, getD, take, drop, List·getD-append}
 use lib.Seq.{getD-append-add, getD-drop}
 use lib.Dec.{eqb, leb}
+use borrow.Author.Tests.{ne-eqb}
 use Rattle.limits.specs.Limits.{maxListLimit, maxPoolBytes, maxContainers, badSchema, badLimit, noRoom, malformed, overLimit, misfit, badContainers, badTable, badGrid, badAnswers}
 use Rattle.words.specs.Word.{wordsOf, bytesOf}
 use Rattle.words.specs.WordLaws.{length-bytes}
 use Rattle.words.specs.Layout.{field, packed, Within}
 use Rattle.words.specs.LayoutLaws.{field-packed}
 use Rattle.words.specs.Stores.{written, take-written, length-written}
+use Rattle.kleene.specs.declared.Truth.{Truth}
 use Rattle.text.specs.Utf8.{Each}
 use Rattle.predicate.specs.declared.Column.{Column}
 use Rattle.predicate.specs.declared.Progress.{Progress}
@@ -22,14 +24,25 @@ use Rattle.predicate.specs.Predicates.{nodeAt}
 use Rattle.predicate.specs.Checking.{schemaFine, typeIn, missing, formed, limited, columned, nodeFault, predicateFault}
 use Rattle.predicate.specs.CheckingLaws.{Fault, predicate-fault}
 use Rattle.predicate.specs.Calls.{Rooms, roomy, rewriteFault}
+use Rattle.statistics.specs.declared.Statistic.{Statistic}
+use Rattle.statistics.specs.Statistics.{statisticWords}
+use Rattle.statistics.specs.ListLaws.{length-statistics}
+use Rattle.table.specs.Tables.{Table}
+use Rattle.table.specs.Rewriting.{rewritten, statistics}
+use Rattle.table.specs.Encoding.{tableWords, poolOf}
+use Rattle.table.specs.Worth.{worth}
+use Rattle.guarantees.specs.Guarantees.{Guarantee, guarantees, guaranteeWords}
+use Rattle.guarantees.specs.GuaranteeLaws.{length-guarantees}
 use Rattle.pruning.specs.TableChecking.{checkedTable}
 use Rattle.pruning.specs.Cells.{answersFine}
+use Rattle.pruning.specs.Evaluating.{isFalse, answersDrop, flagOf}
 use Rattle.spill.specs.Rewrite.{Outcome, refuses, writes, outputs, rewriting, answerLayout, tableOut, poolOut, statisticsOut, guaranteesOut}
 use Rattle.spill.specs.Prune as Prune
-use Rattle.spill.specs.Prune.{Call, Pruned, flags, pruning, pruneFault, flagIn, flagsFrom, gridFine, flagsOut}
+use Rattle.spill.specs.Prune.{Call, Pruned, flags, pruning, pruneFault, flagIn, flagsFrom, tableIn, gridFine, flagsOut}
 use Rattle.spill.specs.Done.{Buffers, Rewrote, Flagged}
 use Rattle.spill.specs.Bounds.{taken, call-bounded, prune-taken}
-use Rattle.demands.specs.Calls.{Asked, faultOf, outcomeOf, askedFor, roomsOf, RewriteCall, PruneCall, refusalIn, tableBytes, poolBytes, statisticsBytes, guaranteesBytes, frontsOf}
+use Rattle.demands.specs.Calls.{Asked, faultOf, outcomeOf, askedFor, roomsOf, RewriteCall, PruneCall, refusalIn, tableBytes, poolBytes, statisticsBytes, guaranteesBytes, cellsIn}
+use Rattle.demands.specs.Rows.{flags-say}
 
 -- ---- refusals in their order
 
@@ -175,15 +188,17 @@ fronted n front old new e h d =
 
 -- ---- rewriting
 
-abbrev pub rewriteBuffers : RewriteCall → List Lent
-rewriteBuffers c =
-    let r = c .answer in
-    let o = outcomeOf (c .asked) in
-    lent (tableBytes r) (tableOut o) (c .old .table) (c .new .table)
-    ∷ lent (poolBytes r) (poolOut o) (c .old .pool) (c .new .pool)
-    ∷ lent (statisticsBytes r) (statisticsOut o) (c .old .statistics) (c .new .statistics)
-    ∷ lent (guaranteesBytes r) (guaranteesOut o) (c .old .guarantees) (c .new .guarantees)
+abbrev buffersOf : Outcome → Buffers → Buffers → ℕ → List Lent
+buffersOf o old new r =
+    lent (tableBytes r) (tableOut o) (old .table) (new .table)
+    ∷ lent (poolBytes r) (poolOut o) (old .pool) (new .pool)
+    ∷ lent (statisticsBytes r) (statisticsOut o) (old .statistics) (new .statistics)
+    ∷ lent (guaranteesBytes r) (guaranteesOut o) (old .guarantees) (new .guarantees)
     ∷ []
+
+-- the four buffers, each with the count that the answer word names
+abbrev pub rewriteBuffers : RewriteCall → List Lent
+rewriteBuffers c = buffersOf (outcomeOf (c .asked)) (c .old) (c .new) (c .answer)
 
 -- every fault of rewriting is at most 6
 first-most : (ts : List Test) (rest m : ℕ) → Each (λ t. t .refusal ≤ m) ts → rest ≤ m → firstFailing ts rest ≤ m
@@ -203,3 +218,160 @@ rewrite-most a =
     rw (rewrite-order a)
     (first-most (rewriteTests a) (predicateFault (a .schema) (a .pool) (wordsOf (a .predicate))) misfit (omega arith, (omega arith, (omega arith, (omega arith, tt))))
     (fault-most _ (predicate-fault (a .schema) (a .pool) (wordsOf (a .predicate)))))
+
+-- the answer word of a refusal
+refused-by : (n : ℕ) (old new : Buffers) (r : ℕ) → n ≤ misfit → Rewrote (refuses n) old new r
+    → (refusalIn r ≡ n) × Each Untouched (buffersOf (refuses n) old new r)
+refused-by n old new r h d =
+    let vs : List ℕ = n ∷ 0 ∷ 0 ∷ 0 ∷ 0 ∷ 0 ∷ [] in
+    let w : Within answerLayout vs = (omega arith, (omega arith, (omega arith, (omega arith, (omega arith, (omega arith, tt)))))) in
+    let f : (i : ℕ) → field answerLayout i r ≡ getD vs i 0 = λ i. ap (field answerLayout i) (d .answer) ∙ field-packed answerLayout vs i w in
+    (f 0, ((ap (λ (k : ℕ). 8 * k) (f 1), d .table), ((f 2, d .pool), ((ap (λ (k : ℕ). 8 * k) (f 3), d .statistics), ((ap (λ (k : ℕ). 8 * k) (f 4), d .guarantees), tt)))))
+
+-- the answer word of outputs that keep their bounds
+module _ (t p s g : List ℕ) (i j k : ℕ) (old new : Buffers) (r : ℕ) where
+  done-by : length t ≡ 8 * i → length s ≡ 8 * j → length g ≡ 8 * k → i < 2 ^ 16 → length p < 2 ^ 16 → j < 2 ^ 8 → k < 2 ^ 8
+      → length t ≤ length (old .table) → length p ≤ length (old .pool) → length s ≤ length (old .statistics) → length g ≤ length (old .guarantees)
+      → Rewrote (writes t p s g) old new r → (refusalIn r ≡ 0) × Each Fronted (buffersOf (writes t p s g) old new r)
+  done-by et es eg hi hp hj hk rt rp rs rg d =
+      let vs : List ℕ = 0 ∷ length t / 8 ∷ length p ∷ length s / 8 ∷ length g / 8 ∷ 0 ∷ [] in
+      let w : Within answerLayout vs = (omega arith, (omega arith, (hp, (omega arith, (omega arith, (omega arith, tt)))))) in
+      let f : (n : ℕ) → field answerLayout n r ≡ getD vs n 0 = λ n. ap (field answerLayout n) (d .answer) ∙ field-packed answerLayout vs n w in
+      let a : tableBytes r ≡ length t = ap (λ (x : ℕ). 8 * x) (f 1) ∙ omega arith in
+      let b : statisticsBytes r ≡ length s = ap (λ (x : ℕ). 8 * x) (f 3) ∙ omega arith in
+      let c : guaranteesBytes r ≡ length g = ap (λ (x : ℕ). 8 * x) (f 4) ∙ omega arith in
+      (
+        f 0,
+        (
+          fronted (tableBytes r) t (old .table) (new .table) a rt (d .table),
+          (
+            fronted (poolBytes r) p (old .pool) (new .pool) (f 2) rp (d .pool),
+            (fronted (statisticsBytes r) s (old .statistics) (new .statistics) b rs (d .statistics), (fronted (guaranteesBytes r) g (old .guarantees) (new .guarantees) c rg (d .guarantees), tt)),
+          ),
+        ),
+      )
+
+refused-outcome : (a : Asked) (n : ℕ) → faultOf a ≡ suc n → outcomeOf a ≡ refuses (suc n)
+unfolding rewriting
+refused-outcome a n e = rw e
+
+pub accepted-outcome : (a : Asked) → faultOf a ≡ 0 → outcomeOf a ≡ outputs (a .limit) (a .schema) (askedFor a)
+unfolding rewriting
+accepted-outcome a e = rw e
+
+accepted-by : (c : RewriteCall) → faultOf (c .asked) ≡ 0 → (refusalIn (c .answer) ≡ 0) × Each Fronted (rewriteBuffers c)
+accepted-by c e =
+    let a : Asked = c .asked in
+    let k = taken (a .schema) (a .predicate) (a .pool) (a .limit) (a .rooms) e in
+    let b = call-bounded (a .schema) (a .predicate) (a .pool) (a .limit) (a .rooms) e in
+    let t : Table = rewritten (a .limit) (a .schema) (askedFor a) in
+    let list : List Statistic = statistics (a .limit) (a .schema) (askedFor a) in
+    let gs : List Guarantee = guarantees 0 (askedFor a) in
+    let lt = length-bytes (tableWords list 0 t) in
+    let ls = length-bytes (statisticWords list) in
+    let lg = length-bytes (guaranteeWords gs) in
+    let ns = length-statistics list in
+    let ng = length-guarantees gs in
+    let rt : a .rooms .table ≡ length (c .old .table) = ap (λ (r : Rooms). r .table) (c .rooms) in
+    let rp : a .rooms .pool ≡ length (c .old .pool) = ap (λ (r : Rooms). r .pool) (c .rooms) in
+    let rs : a .rooms .statistics ≡ length (c .old .statistics) = ap (λ (r : Rooms). r .statistics) (c .rooms) in
+    let rg : a .rooms .guarantees ≡ length (c .old .guarantees) = ap (λ (r : Rooms). r .guarantees) (c .rooms) in
+    let bt = b .table in
+    let bp = b .pool in
+    let bs = b .statistics in
+    let bg = b .guarantees in
+    let kt = k .table in
+    let kp = k .tablePool in
+    let ks = k .statistics in
+    let kg = k .guarantees in
+    subst (λ o. Rewrote o (c .old) (c .new) (c .answer) → (refusalIn (c .answer) ≡ 0) × Each Fronted (buffersOf o (c .old) (c .new) (c .answer)))
+    (sym (accepted-outcome a e))
+    (done-by (bytesOf (tableWords list 0 t)) (poolOf t) (bytesOf (statisticWords list)) (bytesOf (guaranteeWords gs)) (length (tableWords list 0 t)) (length (statisticWords list)) (length (guaranteeWords gs)) (c .old) (c .new) (c .answer)
+    lt ls lg (omega arith) (omega arith) (omega arith) (omega arith) (omega arith) (omega arith) (omega arith) (omega arith))
+    (c .contract)
+
+refused-call : (c : RewriteCall) (n : ℕ) → faultOf (c .asked) ≡ suc n → (refusalIn (c .answer) ≡ suc n) × Each Untouched (rewriteBuffers c)
+refused-call c n e =
+    let m = rewrite-most (c .asked) in
+    subst (λ o. Rewrote o (c .old) (c .new) (c .answer) → (refusalIn (c .answer) ≡ suc n) × Each Untouched (buffersOf o (c .old) (c .new) (c .answer)))
+    (sym (refused-outcome (c .asked) n e))
+    (refused-by (suc n) (c .old) (c .new) (c .answer) (omega arith))
+    (c .contract)
+
+-- every call of rewriting
+pub rewrite-answered : (c : RewriteCall) → Answered (faultOf (c .asked)) (refusalIn (c .answer)) (rewriteBuffers c)
+rewrite-answered c = go (faultOf (c .asked)) refl
+  where
+    go : (n : ℕ) → faultOf (c .asked) ≡ n → Answered n (refusalIn (c .answer)) (rewriteBuffers c)
+    go zero e = let d = accepted-by c e in record { refusal-is = d .0; refused = λ h. absurd (h refl); accepted = λ z. d .1 }
+    go (suc n) e = let d = refused-call c n e in record { refusal-is = d .0; refused = λ h. d .1; accepted = λ z. absurd (omega arith) }
+
+-- ---- pruning
+
+-- as many flags as containers are counted, none on a refusal
+abbrev pub pruneBuffers : PruneCall → List Lent
+pruneBuffers c = lent (cond (eqb (c .answer) 0) (c .given .containers) 0) (flagsOut (pruning (c .given))) (c .old) (c .new) ∷ []
+
+length-flags : (c : Call) (i n : ℕ) → length (flagsFrom c i n) ≡ n
+unfolding flagsFrom
+length-flags c i zero = refl
+length-flags c i (suc n) = ap suc (length-flags c (i + 1) n)
+
+refused-pruning : (c : Call) (n : ℕ) → pruneFault c ≡ suc n → pruning c ≡ Prune.refuses (suc n)
+unfolding pruning
+refused-pruning c n e = rw e
+
+pub accepted-pruning : (c : Call) → pruneFault c ≡ 0 → pruning c ≡ flags (flagsFrom c 0 (c .containers))
+unfolding pruning
+accepted-pruning c e = rw e
+
+-- every call of pruning
+pub prune-answered : (c : PruneCall) → Answered (pruneFault (c .given)) (c .answer) (pruneBuffers c)
+prune-answered c = go (pruneFault (c .given)) refl (c .contract)
+  where
+    go : (n : ℕ) → pruneFault (c .given) ≡ n → Flagged (pruning (c .given)) (c .old) (c .new) (c .answer) → Answered n (c .answer) (pruneBuffers c)
+    go zero e d =
+        let k = prune-taken (c .given) e .room in
+        let r = c .room in
+        let o = accepted-pruning (c .given) e in
+        let fs : List ℕ = flagsFrom (c .given) 0 (c .given .containers) in
+        let l = length-flags (c .given) 0 (c .given .containers) in
+        let q : c .answer ≡ 0 = d .result ∙ ap Prune.resultOf o in
+        record {
+          refusal-is = q;
+          refused = λ h. absurd (h refl);
+          accepted = λ z. (rw (q, o) (fronted (c .given .containers) fs (c .old) (c .new) (sym l) (omega arith) (d .flags ∙ ap (λ p. written (flagsOut p) (c .old)) o)), tt);
+        }
+    go (suc n) e d =
+        let o = refused-pruning (c .given) n e in
+        let q : c .answer ≡ suc n = d .result ∙ ap Prune.resultOf o in
+        record {
+          refusal-is = q;
+          refused = λ h. ((rw (q, ne-eqb (suc n) 0 (λ z. omega arith)), d .flags ∙ ap (λ p. written (flagsOut p) (c .old)) o), tt);
+          accepted = λ z. absurd (omega arith);
+        }
+
+-- a flag of an accepted call stands at its container's number
+pub flag-at : (c : PruneCall) → c .answer ≡ 0 → (i : ℕ) → i < c .given .containers → getD (c .new) i 0 ≡ flagIn (c .given) i
+flag-at c z i h =
+    let e : pruneFault (c .given) ≡ 0 = sym (prune-answered c .refusal-is) ∙ z in
+    let fs : List ℕ = flagsFrom (c .given) 0 (c .given .containers) in
+    let o : pruning (c .given) ≡ flags fs = accepted-pruning (c .given) e in
+    let l = length-flags (c .given) 0 (c .given .containers) in
+    ap (λ l. getD l i 0) (c .contract .flags ∙ ap (λ p. written (flagsOut p) (c .old)) o)
+    ∙ List·getD-append fs (drop (length fs) (c .old)) 0 i (omega arith)
+    ∙ sym (flags-say (c .given) fs i 0 o h .1)
+
+-- and is 0 or 1
+pub flag-bit : (c : PruneCall) → c .answer ≡ 0 → (i : ℕ) → i < c .given .containers → (getD (c .new) i 0 ≡ 0) ⊎ (getD (c .new) i 0 ≡ 1)
+unfolding flagIn
+flag-bit c z i h =
+    let d : Call = c .given in
+    rw (flag-at c z i h) (bit (worth (cellsIn d i) (tableIn d)) (answersDrop (d .answers) (wordsOf (d .guarantees)) (i * (length (d .guarantees) / 8))))
+  where
+    go : (b : Bool) → (_≡_ {A = ℕ} (cond b 0 1) 0) ⊎ (_≡_ {A = ℕ} (cond b 0 1) 1)
+    go true = inl refl
+    go false = inr refl
+
+    bit : (t : Truth) (b : Bool) → (flagOf t b ≡ 0) ⊎ (flagOf t b ≡ 1)
+    bit t b = go (isFalse t || b)

@@ -1,6 +1,6 @@
 pub mod Calls
 pub mod Cases
-pub mod Bytes
 pub mod Rows
+pub mod Bytes
 pub mod Sharp
 pub mod Needed
