@@ -3,7 +3,7 @@
 use mathlib.Core.Path.{_≡_, refl}
 use mathlib.Core.List.{List}
 use Prim.Native.Nat.{ℕ, _*_}
-use lib.ListN.{length, take}
+use lib.ListN.{length, getD, take}
 use Rattle.words.specs.Word.{wordsOf}
 use Rattle.words.specs.Layout.{field}
 use Rattle.predicate.specs.Predicates.{Predicate}
@@ -140,3 +140,20 @@ frontsOf c =
     (take (poolBytes r) (c .new .pool))
     (take (statisticsBytes r) (c .new .statistics))
     (take (guaranteesBytes r) (c .new .guarantees))
+
+-- ---- a round: rewriting that named no refusal, and pruning, not refused either, by the fronts that it left
+
+pub record Round : Type 0 where
+  pub rewrite : RewriteCall
+  pub blocks : Blocks
+  pub prune : PruneCall
+  pub rewrote : refusalIn (rewrite .answer) ≡ 0
+  pub lent-on : prune .given ≡ callOf (rewrite .asked .schema) (frontsOf rewrite) blocks
+  pub pruned : prune .answer ≡ 0
+
+-- its predicate, and the flag of a container
+abbrev pub predicateIn : Round → Predicate
+predicateIn x = askedFor (x .rewrite .asked)
+
+abbrev pub flagByte : Round → ℕ → ℕ
+flagByte x i = getD (x .prune .new) i 0

@@ -1,29 +1,33 @@
 -- Demand 2, "every predicate": each entry has the definition's outcome and no other; what rewriting writes, read back, is the rewriting
 -- of the predicate; pruning by it gives the definition's flags. From the contracts. Assumes nothing.
 use mathlib.Core.Path.{_≡_, refl, sym, _∙_, ap, subst}
-use mathlib.Core.Bool.{true}
+use mathlib.Core.Bool.{true, _&&_}
 use mathlib.Core.List.{List, [], _∷_}
 use Prim.Native.Nat.{ℕ, _*_, _/_, _<_}
 use native.Mathlib.Omega.{arith}
 use lib.ListN.{length, getD, take}
-use Rattle.limits.specs.Limits.{badContainers, badGrid, badAnswers}
+use lib.Dec.{leb}
+use borrow.Author.Tests.{le-leb}
+use Rattle.limits.specs.Limits.{maxColumns, maxContainers, badContainers, badGrid, badAnswers}
 use Rattle.words.specs.Word.{wordsOf, bytesOf}
 use Rattle.words.specs.WordLaws.{length-bytes}
 use Rattle.predicate.specs.Predicates.{Predicate}
+use Rattle.predicate.specs.Checking.{schemaFine}
 use Rattle.table.specs.Rewriting.{rewritten, statistics}
 use Rattle.table.specs.Worth.{worth}
 use Rattle.guarantees.specs.Guarantees.{guarantees, guaranteeWords}
 use Rattle.guarantees.specs.GuaranteeLaws.{length-guarantees}
 use Rattle.pruning.specs.TableChecking.{checkedTable}
+use Rattle.pruning.specs.Cells.{answersFine}
 use Rattle.pruning.specs.Evaluating.{answersDrop, flagOf}
 use Rattle.spill.specs.Rewrite.{Outcome, writes, outputs, answerWord, tableOut, poolOut, statisticsOut, guaranteesOut}
-use Rattle.spill.specs.Prune.{Call, pruning, pruneFault, flagIn, listIn, tableIn, resultOf, flagsOut}
+use Rattle.spill.specs.Prune.{Call, pruning, pruneFault, flagIn, gridFine, listIn, tableIn, resultOf, flagsOut}
 use Rattle.words.specs.Stores.{written}
 use Rattle.spill.specs.Done.{Buffers, Rewrote, Flagged, rewrite-unique, prune-unique}
 use Rattle.spill.specs.Bounds.{taken, call-checked}
-use Rattle.demands.specs.Calls.{Asked, faultOf, outcomeOf, askedFor, Blocks, callOf, cellsIn, roomsOf, RewriteCall, PruneCall, refusalIn, tableBytes, poolBytes, statisticsBytes, guaranteesBytes, frontsOf}
+use Rattle.demands.specs.Calls.{Asked, faultOf, outcomeOf, askedFor, Blocks, callOf, cellsIn, roomsOf, RewriteCall, PruneCall, refusalIn, tableBytes, poolBytes, statisticsBytes, guaranteesBytes, frontsOf, Round, predicateIn, flagByte}
 use Rattle.demands.specs.Rows as Rows
-use Rattle.demands.specs.Bytes.{rewrite-answered, accepted-outcome, flag-at}
+use Rattle.demands.specs.Bytes.{test, firstFailing, prune-order, rewrite-answered, prune-answered, accepted-outcome, flag-at}
 
 -- ---- one outcome
 
@@ -128,3 +132,37 @@ reads-back c b z =
     subst (λ o. Reads (callOf (c .asked .schema) o b) (c .asked .limit) (askedFor (c .asked)))
     (sym (fronts-are c z ∙ accepted-outcome (c .asked) e))
     (outputs-read (c .asked) b e)
+
+-- pruning by them can only be refused for its containers, its grid or its answers
+pub refusals-left : (c : RewriteCall) (b : Blocks) (d : PruneCall) → refusalIn (c .answer) ≡ 0 → d .given ≡ callOf (c .asked .schema) (frontsOf c) b
+    → d .answer
+    ≡ firstFailing
+    (test (leb (b .containers) maxContainers && leb (b .containers) (b .room)) badContainers
+    ∷ test (gridFine (d .given)) badGrid
+    ∷ test (answersFine (b .containers) (length (guarantees 0 (askedFor (c .asked)))) (b .answers)) badAnswers
+    ∷ [])
+    0
+refusals-left c b d z e =
+    let a : Asked = c .asked in
+    let k = taken (a .schema) (a .predicate) (a .pool) (a .limit) (a .rooms) (accepted-is c z) in
+    let r = reads-back c b z in
+    let s : schemaFine (a .schema) ≡ true = rw (le-leb (length (a .schema)) maxColumns (k .few), k .types) in
+    let f : pruneFault (d .given) ≡ pruneFault (callOf (a .schema) (frontsOf c) b) = ap pruneFault e in
+    prune-answered d .refusal-is ∙ f ∙ prune-order (callOf (a .schema) (frontsOf c) b) ∙ rw (s, r .checked, r .each, e)
+
+-- ---- the flags of a round
+
+-- a container's flag is that of the predicate's rewriting on its cells, and of the answers to the predicate's guarantees
+pub round-flags : (x : Round) (i : ℕ) → i < x .blocks .containers
+    → let a = x .rewrite .asked in
+    let p = predicateIn x in
+    flagByte x i
+    ≡ flagOf (worth (cellsIn (x .prune .given) i) (rewritten (a .limit) (a .schema) p))
+    (answersDrop (x .blocks .answers) (guaranteeWords (guarantees 0 p)) (i * length (guarantees 0 p)))
+unfolding flagIn
+round-flags x i h =
+    let c = x .rewrite in
+    let call = callOf (c .asked .schema) (frontsOf c) (x .blocks) in
+    let r = reads-back c (x .blocks) (x .rewrote) in
+    let n : x .prune .given .containers ≡ x .blocks .containers = ap (λ (k : Call). k .containers) (x .lent-on) in
+    flag-at (x .prune) (x .pruned) i (omega arith) ∙ rw (x .lent-on, r .table, r .promises, r .each)
