@@ -5,3 +5,4 @@ pub mod Bytes
 pub mod Predicates
 pub mod Sharp
 pub mod Needed
+pub mod Rounds
