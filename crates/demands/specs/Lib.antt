@@ -6,3 +6,4 @@ pub mod Predicates
 pub mod Sharp
 pub mod Needed
 pub mod Rounds
+pub mod Demands

@@ -1,18 +1,27 @@
--- Demand 3 of calls of the two entries: what a flag says of rows, from the contracts. Assumes nothing.
-use mathlib.Core.Path.{_≡_, sym, _∙_, ap, subst}
-use mathlib.Core.Bool.{false}
+-- Demand 3 of calls of the two entries: what a flag says of rows, from the contracts; and what missing statistics claim. Assumes nothing.
+use mathlib.Core.Path.{_≡_, refl, sym, _∙_, ap, subst}
+use mathlib.Core.Bool.{false, true≢false}
+use mathlib.Core.Logic.{_⊎_, inl, inr}
 use mathlib.Core.List.{List, []}
-use Prim.Native.Nat.{ℕ, _<_}
+use Prim.Native.Nat.{ℕ, _+_, _*_, _<_}
 use native.Mathlib.Omega.{arith}
-use lib.ListN.{getD}
+use lib.ListN.{length, getD}
+use Rattle.words.specs.Word.{wordsOf}
 use Rattle.operators.specs.declared.Operator.{Operator}
 use Rattle.kleene.specs.declared.Truth.the-variants.{True}
-use Rattle.literals.specs.Literals.{Value, integerType}
+use Rattle.literals.specs.Literals.{Value, null, typeOf, nullType, integerType}
+use Rattle.orders.specs.Values.{isNull}
 use Rattle.predicate.specs.declared.Column.{Column}
 use Rattle.predicate.specs.Predicates.{comparison}
 use Rattle.predicate.specs.Checking.{typeIn}
-use Rattle.predicate.specs.Meaning.{Row, meaning}
+use Rattle.predicate.specs.Meaning.{Row, valueIn, meaning}
 use Rattle.predicate.specs.Rows.{In}
+use Rattle.statistics.specs.declared.Statistic.{Statistic}
+use Rattle.statistics.specs.declared.Statistic.the-variants.{Least, Greatest, Blanks, Rows}
+use Rattle.statistics.specs.Statistics.{placeOf}
+use Rattle.table.specs.Worth.{Cells}
+use Rattle.table.specs.Fitting.{Counts, Bounds, FitCells}
+use Rattle.pruning.specs.GridLaws.{cell-by, absent-cell}
 use Rattle.spill.specs.Rewrite.{Outcome}
 use Rattle.spill.specs.Prune.{Call, pruning, pruneFault, flags, flagIn, flagsFrom, listIn}
 use Rattle.demands.specs.Calls.{outcomeOf, askedFor, callOf, cellsIn, frontsOf, Round, predicateIn, flagByte}
@@ -54,3 +63,32 @@ module _ (x : Round) where
       subst (λ k. Possibly k (predicateIn x) i) (sym given-is)
       (nothing-better (x .rewrite .asked) (x .blocks) all (accepted-is (x .rewrite) (x .rewrote)) flags-are i h (byte-is i 0 h ∙ z) none o c v is whole l
       (subst (λ k. Possible c (cellsIn k i) (listIn k)) given-is p))
+
+-- ---- missing statistics
+
+-- a grid word of type 0 is an absent cell
+pub missing-cell : (c : Call) (i : ℕ) (s : Statistic) → typeOf (getD (wordsOf (c .grid)) (i * length (listIn c) + placeOf s (listIn c)) 0) ≡ nullType
+    → cellsIn c i s ≡ null
+missing-cell c i s e = cell-by (c .schema) (c .cells) (listIn c) (wordsOf (c .grid)) (λ v. v ≡ null) i s refl (λ k. absent-cell (c .cells) s _ e)
+
+counts-without : (v w : Value) (n : ℕ) → (w ≡ null) ⊎ (w ≡ v) → Counts v n → Counts w n
+counts-without v w n (inl e) h = rw e tt
+counts-without v w n (inr e) h = rw e h
+
+low-without : (v w x : Value) → (w ≡ null) ⊎ (w ≡ v) → Bounds v x → Bounds w x
+low-without v w x (inl e) h p q = absurd (true≢false (rw e at p))
+low-without v w x (inr e) h p q = rw e (h (rw e at p) q)
+
+high-without : (v w x : Value) → (w ≡ null) ⊎ (w ≡ v) → Bounds x v → Bounds x w
+high-without v w x (inl e) h p q = absurd (true≢false (rw e at q))
+high-without v w x (inr e) h p q = rw e (h p (rw e at q))
+
+-- rows that fit cells fit them with any of them absent
+pub fit-without : (cells fewer : Cells) (rows : List Row) → ((s : Statistic) → (fewer s ≡ null) ⊎ (fewer s ≡ cells s)) → FitCells cells rows → FitCells fewer rows
+fit-without cells fewer rows h f =
+    record {
+      count = counts-without (cells Rows) (fewer Rows) _ (h Rows) (f .count);
+      blanks = λ c. counts-without (cells (Blanks c)) (fewer (Blanks c)) _ (h (Blanks c)) (f .blanks c);
+      least = λ c r k. low-without (cells (Least c)) (fewer (Least c)) (valueIn r c) (h (Least c)) (f .least c r k);
+      greatest = λ c r k. high-without (cells (Greatest c)) (fewer (Greatest c)) (valueIn r c) (h (Greatest c)) (f .greatest c r k);
+    }
