@@ -3,7 +3,7 @@
 use mathlib.Core.Path.{_≡_, refl, sym, _∙_, ap, subst}
 use mathlib.Core.Bool.{Bool, true, false, cond, not, _&&_, _||_, true≢false}
 use mathlib.Core.Logic.{_⊎_, inl, inr, _↔_}
-use mathlib.Core.List.{List, [], _∷_, _++_}
+use mathlib.Core.List.{List, [], _∷_}
 use Prim.Native.Nat.{ℕ, zero, suc, _+_, _-_, _*_, _/_, _%_, _^_, _<_, _≤_}
 use native.Mathlib.Omega.{arith}
 use lib.ListN.{length, getD, take, drop, List·getD-append}
@@ -13,15 +13,14 @@ use borrow.Author.Tests.{ne-eqb}
 use Rattle.limits.specs.Limits.{maxListLimit, maxPoolBytes, maxContainers, badSchema, badLimit, noRoom, malformed, overLimit, misfit, badContainers, badTable, badGrid, badAnswers}
 use Rattle.words.specs.Word.{wordsOf, bytesOf}
 use Rattle.words.specs.WordLaws.{length-bytes}
-use Rattle.words.specs.Layout.{field, packed, Within}
+use Rattle.words.specs.Layout.{field, Within}
 use Rattle.words.specs.LayoutLaws.{field-packed}
 use Rattle.words.specs.Stores.{written, take-written, length-written}
 use Rattle.kleene.specs.declared.Truth.{Truth}
 use Rattle.text.specs.Utf8.{Each}
-use Rattle.predicate.specs.declared.Column.{Column}
 use Rattle.predicate.specs.declared.Progress.{Progress}
 use Rattle.predicate.specs.Predicates.{nodeAt}
-use Rattle.predicate.specs.Checking.{schemaFine, typeIn, missing, formed, limited, columned, nodeFault, predicateFault}
+use Rattle.predicate.specs.Checking.{schemaFine, missing, formed, limited, columned, nodeFault, predicateFault}
 use Rattle.predicate.specs.CheckingLaws.{Fault, predicate-fault}
 use Rattle.predicate.specs.Calls.{Rooms, roomy, rewriteFault}
 use Rattle.statistics.specs.declared.Statistic.{Statistic}
@@ -38,10 +37,10 @@ use Rattle.pruning.specs.Cells.{answersFine}
 use Rattle.pruning.specs.Evaluating.{isFalse, answersDrop, flagOf}
 use Rattle.spill.specs.Rewrite.{Outcome, refuses, writes, outputs, rewriting, answerLayout, tableOut, poolOut, statisticsOut, guaranteesOut}
 use Rattle.spill.specs.Prune as Prune
-use Rattle.spill.specs.Prune.{Call, Pruned, flags, pruning, pruneFault, flagIn, flagsFrom, tableIn, gridFine, flagsOut}
+use Rattle.spill.specs.Prune.{Call, flags, pruning, pruneFault, flagIn, flagsFrom, tableIn, gridFine, flagsOut}
 use Rattle.spill.specs.Done.{Buffers, Rewrote, Flagged}
 use Rattle.spill.specs.Bounds.{taken, call-bounded, prune-taken}
-use Rattle.demands.specs.Calls.{Asked, faultOf, outcomeOf, askedFor, roomsOf, RewriteCall, PruneCall, refusalIn, tableBytes, poolBytes, statisticsBytes, guaranteesBytes, cellsIn}
+use Rattle.demands.specs.Calls.{Asked, faultOf, outcomeOf, askedFor, RewriteCall, PruneCall, refusalIn, tableBytes, poolBytes, statisticsBytes, guaranteesBytes, cellsIn}
 use Rattle.demands.specs.Rows.{flags-say}
 
 -- ---- refusals in their order
@@ -239,8 +238,7 @@ module _ (t p s g : List ℕ) (i j k : ℕ) (old new : Buffers) (r : ℕ) where
       let f : (n : ℕ) → field answerLayout n r ≡ getD vs n 0 = λ n. ap (field answerLayout n) (d .answer) ∙ field-packed answerLayout vs n w in
       let a : tableBytes r ≡ length t = ap (λ (x : ℕ). 8 * x) (f 1) ∙ omega arith in
       let b : statisticsBytes r ≡ length s = ap (λ (x : ℕ). 8 * x) (f 3) ∙ omega arith in
-      let c : guaranteesBytes r ≡ length g = ap (λ (x : ℕ). 8 * x) (f 4) ∙ omega arith in
-      (
+      let c : guaranteesBytes r ≡ length g = ap (λ (x : ℕ). 8 * x) (f 4) ∙ omega arith in (
         f 0,
         (
           fronted (tableBytes r) t (old .table) (new .table) a rt (d .table),

@@ -1,11 +1,11 @@
 -- What was asked to be proved: three demands, each as a statement and its proof. A RewriteCall or a PruneCall is any call of spill_rewrite
 -- or spill_prune with its contract; a Round is pruning by the fronts that rewriting left (Calls.antt). Assumes nothing.
-use mathlib.Core.Path.{_≡_, sym, subst}
+use mathlib.Core.Path.{_≡_, subst}
 use mathlib.Core.Bool.{false, _&&_}
 use mathlib.Core.Logic.{_⊎_, _↔_}
 use mathlib.Core.List.{List, [], _∷_}
 use Prim.Native.Nat.{ℕ, _*_, _/_, _%_, _<_}
-use lib.ListN.{length}
+use lib.ListN.{length, getD}
 use lib.Dec.{eqb, leb}
 use Rattle.limits.specs.Limits.{maxListLimit, maxPoolBytes, maxContainers, badSchema, badLimit, noRoom, malformed, badContainers, badTable, badGrid, badAnswers}
 use Rattle.words.specs.Word.{wordsOf}
@@ -26,18 +26,20 @@ use Rattle.guarantees.specs.Guarantees.{guarantees, guaranteeWords}
 use Rattle.pruning.specs.TableChecking.{checkedTable}
 use Rattle.pruning.specs.Cells.{answersFine}
 use Rattle.pruning.specs.Evaluating.{answersDrop, flagOf}
-use Rattle.spill.specs.Prune.{Call, gridFine, listIn}
+use Rattle.spill.specs.Prune.{Call, flags, pruning, gridFine, listIn}
 use Rattle.spill.specs.Done.{Buffers}
-use Rattle.demands.specs.Calls.{Asked, askedFor, Blocks, callOf, cellsIn, roomsOf, RewriteCall, PruneCall, refusalIn, frontsOf, Round, predicateIn, flagByte}
-use Rattle.demands.specs.Bytes.{Test, test, firstFailing, FailsFirst, AllPass, exactly, Answered, rewriteBuffers, pruneBuffers, rewrite-order, prune-order, rewrite-answered, prune-answered}
+use Rattle.demands.specs.Calls.{Asked, faultOf, outcomeOf, askedFor, Blocks, callOf, cellsIn, roomsOf, RewriteCall, PruneCall, refusalIn, frontsOf, Round, predicateIn, flagByte}
+use Rattle.demands.specs.Bytes.{Test, test, firstFailing, FailsFirst, AllPass, exactly, Answered, rewriteBuffers, pruneBuffers, rewrite-order, prune-order, rewrite-answered, prune-answered, flag-bit}
 use Rattle.demands.specs.Predicates.{Reads, rewrite-some, rewrite-one, prune-some, prune-one, reads-back, round-flags}
+use Rattle.demands.specs.Rows as Rows
 use Rattle.demands.specs.Rows.{Fit}
+use Rattle.demands.specs.Sharp as Sharp
 use Rattle.demands.specs.Sharp.{Literal, Possible, Possibly}
 use Rattle.demands.specs.Rounds.{round-drops, round-keeps, fit-without}
 
 -- ---- 1. every byte sequence
 
--- Whatever the bytes, both entries answer.
+-- Whatever the bytes, both entries answer: their contracts ask nothing of the caller, and every call has an outcome.
 abbrev pub Answering : Type 0
 Answering =
     ((a : Asked) (old : Buffers) → a .rooms ≡ roomsOf old → (c : RewriteCall) × (c .asked ≡ a) × (c .old ≡ old))
@@ -47,7 +49,7 @@ pub answering : Answering
 answering = (rewrite-some, prune-some)
 
 -- A malformed call gets the refusal of the first test that fails, in document 01's order; a refusal counts nothing and leaves every
--- buffer as it was; an accepted call changes only the counted fronts, to the definition's bytes.
+-- buffer as it was; an accepted call changes only the counted fronts, to the definition's bytes; flags are 0 or 1.
 abbrev pub EveryByteSequence : Type 0
 EveryByteSequence =
     ((c : RewriteCall)
@@ -71,11 +73,13 @@ EveryByteSequence =
     ∷ [])
     0)
     (c .answer) (pruneBuffers c))
+    × ((c : PruneCall) → c .answer ≡ 0 → (i : ℕ) → i < c .given .containers → (getD (c .new) i 0 ≡ 0) ⊎ (getD (c .new) i 0 ≡ 1))
 
 pub every-byte-sequence : EveryByteSequence
 every-byte-sequence = (
   λ c. subst (λ n. Answered n (refusalIn (c .answer)) (rewriteBuffers c)) (rewrite-order (c .asked)) (rewrite-answered c),
   λ c. subst (λ n. Answered n (c .answer) (pruneBuffers c)) (prune-order (c .given)) (prune-answered c),
+  flag-bit,
 )
 
 -- A refusal is given exactly where its test fails and all before it pass.
@@ -111,14 +115,25 @@ every-predicate = (reads-back, round-flags)
 
 -- ---- 3. every set of rows
 
--- A dropped block whose cells and answers are true of some rows has no row for which the predicate is true.
+-- A dropped block whose cells and answers are true of some rows has no row for which the predicate is true: of the definitions,
 abbrev pub DropsNoMatch : Type 0
 DropsNoMatch =
+    (a : Asked) (b : Blocks) (fs : List ℕ) → faultOf a ≡ 0 → pruning (callOf (a .schema) (outcomeOf a) b) ≡ flags fs
+    → (i : ℕ) → i < b .containers → getD fs i 1 ≡ 0
+    → (rows : List Row) → Fit (callOf (a .schema) (outcomeOf a) b) (askedFor a) i rows
+    → (r : Row) → In r rows → meaning r (askedFor a) ≡ True → ⊥
+
+pub drops-no-match : DropsNoMatch
+drops-no-match = Rows.drops-no-match
+
+-- and of the entries.
+abbrev pub EntriesDropNoMatch : Type 0
+EntriesDropNoMatch =
     (x : Round) (i : ℕ) → i < x .blocks .containers → flagByte x i ≡ 0
     → (rows : List Row) → Fit (x .prune .given) (predicateIn x) i rows → (r : Row) → In r rows → meaning r (predicateIn x) ≡ True → ⊥
 
-pub drops-no-match : DropsNoMatch
-drops-no-match = round-drops
+pub entries-drop-no-match : EntriesDropNoMatch
+entries-drop-no-match = round-drops
 
 -- Whatever statistics are missing: rows that fit cells fit them with any of them absent.
 abbrev pub WhateverIsMissing : Type 0
@@ -128,13 +143,26 @@ WhateverIsMissing =
 pub whatever-is-missing : WhateverIsMissing
 whatever-is-missing = fit-without
 
--- Nothing better was possible: where a block is kept for one integer comparison, column first, no flips, its literal not null unless the
--- operator is a distinct-from, with no answers and a summary that does not contradict itself, some rows fit its cells and hold a match.
+-- Nothing better was possible. One integer comparison, column first, no flips, its literal not null unless the operator is a
+-- distinct-from; no answers; every statistic asked for present, least ≤ greatest, blanks ≤ rows, at least one row. If the block is kept,
+-- some rows that fit its cells hold a match: of the definitions,
 abbrev pub NothingBetter : Type 0
 NothingBetter =
+    (a : Asked) (b : Blocks) (fs : List ℕ) → faultOf a ≡ 0 → pruning (callOf (a .schema) (outcomeOf a) b) ≡ flags fs
+    → (i : ℕ) → i < b .containers → getD fs i 0 ≡ 1 → b .answers ≡ []
+    → (o : Operator) (c : Column) (v : Value) → askedFor a ≡ comparison o c 0 false v → typeIn (a .schema) (c .0) ≡ integerType → Literal o v
+    → Possible c (cellsIn (callOf (a .schema) (outcomeOf a) b) i) (listIn (callOf (a .schema) (outcomeOf a) b))
+    → Possibly (callOf (a .schema) (outcomeOf a) b) (askedFor a) i
+
+pub nothing-better : NothingBetter
+nothing-better = Sharp.nothing-better
+
+-- and of the entries.
+abbrev pub EntriesNothingBetter : Type 0
+EntriesNothingBetter =
     (x : Round) (i : ℕ) → i < x .blocks .containers → flagByte x i ≡ 1 → x .blocks .answers ≡ []
     → (o : Operator) (c : Column) (v : Value) → predicateIn x ≡ comparison o c 0 false v → typeIn (x .rewrite .asked .schema) (c .0) ≡ integerType → Literal o v
     → Possible c (cellsIn (x .prune .given) i) (listIn (x .prune .given)) → Possibly (x .prune .given) (predicateIn x) i
 
-pub nothing-better : NothingBetter
-nothing-better = round-keeps
+pub entries-nothing-better : EntriesNothingBetter
+entries-nothing-better = round-keeps

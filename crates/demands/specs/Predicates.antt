@@ -5,11 +5,11 @@ use mathlib.Core.Bool.{true, _&&_}
 use mathlib.Core.List.{List, [], _∷_}
 use Prim.Native.Nat.{ℕ, _*_, _/_, _<_}
 use native.Mathlib.Omega.{arith}
-use lib.ListN.{length, getD, take}
+use lib.ListN.{length}
 use lib.Dec.{leb}
 use borrow.Author.Tests.{le-leb}
 use Rattle.limits.specs.Limits.{maxColumns, maxContainers, badContainers, badGrid, badAnswers}
-use Rattle.words.specs.Word.{wordsOf, bytesOf}
+use Rattle.words.specs.Word.{wordsOf}
 use Rattle.words.specs.WordLaws.{length-bytes}
 use Rattle.predicate.specs.Predicates.{Predicate}
 use Rattle.predicate.specs.Checking.{schemaFine}
@@ -25,7 +25,7 @@ use Rattle.spill.specs.Prune.{Call, pruning, pruneFault, flagIn, gridFine, list
 use Rattle.words.specs.Stores.{written}
 use Rattle.spill.specs.Done.{Buffers, Rewrote, Flagged, rewrite-unique, prune-unique}
 use Rattle.spill.specs.Bounds.{taken, call-checked}
-use Rattle.demands.specs.Calls.{Asked, faultOf, outcomeOf, askedFor, Blocks, callOf, cellsIn, roomsOf, RewriteCall, PruneCall, refusalIn, tableBytes, poolBytes, statisticsBytes, guaranteesBytes, frontsOf, Round, predicateIn, flagByte}
+use Rattle.demands.specs.Calls.{Asked, faultOf, outcomeOf, askedFor, Blocks, callOf, cellsIn, roomsOf, RewriteCall, PruneCall, refusalIn, frontsOf, Round, predicateIn, flagByte}
 use Rattle.demands.specs.Rows as Rows
 use Rattle.demands.specs.Bytes.{test, firstFailing, prune-order, rewrite-answered, prune-answered, accepted-outcome, flag-at}
 
@@ -43,8 +43,7 @@ rewrite-some a old e =
       pool = written (poolOut o) (old .pool);
       statistics = written (statisticsOut o) (old .statistics);
       guarantees = written (guaranteesOut o) (old .guarantees);
-    } in
-    (
+    } in (
       record {
         asked = a;
         old = old;
@@ -66,19 +65,18 @@ rewrite-one c d e f =
 
 -- the same of pruning
 pub prune-some : (c : Call) (old : List ℕ) → c .room ≡ length old → (d : PruneCall) × (d .given ≡ c) × (d .old ≡ old)
-prune-some c old e =
-    (
-      record {
-        given = c;
-        old = old;
-        new = written (flagsOut (pruning c)) old;
-        answer = resultOf (pruning c);
-        room = e;
-        contract = record { result = refl; flags = refl };
-      },
-      refl,
-      refl,
-    )
+prune-some c old e = (
+  record {
+    given = c;
+    old = old;
+    new = written (flagsOut (pruning c)) old;
+    answer = resultOf (pruning c);
+    room = e;
+    contract = record { result = refl; flags = refl };
+  },
+  refl,
+  refl,
+)
 
 pub prune-one : (c d : PruneCall) → c .given ≡ d .given → c .old ≡ d .old → (c .answer ≡ d .answer) × (c .new ≡ d .new)
 prune-one c d e f =

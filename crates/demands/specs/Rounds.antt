@@ -10,7 +10,6 @@ use Rattle.words.specs.Word.{wordsOf}
 use Rattle.operators.specs.declared.Operator.{Operator}
 use Rattle.kleene.specs.declared.Truth.the-variants.{True}
 use Rattle.literals.specs.Literals.{Value, null, typeOf, nullType, integerType}
-use Rattle.orders.specs.Values.{isNull}
 use Rattle.predicate.specs.declared.Column.{Column}
 use Rattle.predicate.specs.Predicates.{comparison}
 use Rattle.predicate.specs.Checking.{typeIn}
@@ -24,7 +23,7 @@ use Rattle.table.specs.Fitting.{Counts, Bounds, FitCells}
 use Rattle.pruning.specs.GridLaws.{cell-by, absent-cell}
 use Rattle.spill.specs.Rewrite.{Outcome}
 use Rattle.spill.specs.Prune.{Call, pruning, pruneFault, flags, flagIn, flagsFrom, listIn}
-use Rattle.demands.specs.Calls.{outcomeOf, askedFor, callOf, cellsIn, frontsOf, Round, predicateIn, flagByte}
+use Rattle.demands.specs.Calls.{outcomeOf, callOf, cellsIn, Round, predicateIn, flagByte}
 use Rattle.demands.specs.Rows.{Fit, flags-say, drops-no-match}
 use Rattle.demands.specs.Sharp.{Literal, Possible, Possibly, nothing-better}
 use Rattle.demands.specs.Bytes.{prune-answered, accepted-pruning, flag-at}
