@@ -17,10 +17,13 @@ use Rattle.words.specs.Layout.{field, Within}
 use Rattle.words.specs.LayoutLaws.{field-packed}
 use Rattle.words.specs.Stores.{written, take-written, length-written}
 use Rattle.kleene.specs.declared.Truth.{Truth}
+use Rattle.literals.specs.Literals.{plain, suits}
 use Rattle.text.specs.Utf8.{Each}
+use Rattle.predicate.specs.declared.Column.{Column}
 use Rattle.predicate.specs.declared.Progress.{Progress}
+use Rattle.predicate.specs.declared.Checked.the-variants.{Passed}
 use Rattle.predicate.specs.Predicates.{nodeAt}
-use Rattle.predicate.specs.Checking.{schemaFine, missing, formed, limited, columned, nodeFault, predicateFault}
+use Rattle.predicate.specs.Checking.{schemaFine, typeIn, missing, formed, limited, columned, literalLimited, patterned, afterLiteral, passes, checkLiteral, nodeFault, predicateFault}
 use Rattle.predicate.specs.CheckingLaws.{Fault, predicate-fault}
 use Rattle.predicate.specs.Calls.{Rooms, roomy, rewriteFault}
 use Rattle.statistics.specs.declared.Statistic.{Statistic}
@@ -109,7 +112,11 @@ pub rewrite-order : (a : Asked) → faultOf a ≡ firstFailing (rewriteTests a) 
 unfolding rewriteFault
 rewrite-order a = refl
 
--- in a word that is there 4 before 5 before 6
+or-missing : (b : Bool) (x n : ℕ) → cond b n x ≡ cond (not b) x n
+or-missing true x n = refl
+or-missing false x n = refl
+
+-- in a node's word 4 before 5 before 6, a missing word first
 pub word-order : (schema pool ws : List ℕ) (depth : ℕ) (s : Progress)
     → nodeFault schema pool ws depth s
     ≡ firstFailing
@@ -120,11 +127,23 @@ pub word-order : (schema pool ws : List ℕ) (depth : ℕ) (s : Progress)
     ∷ [])
     0
 unfolding nodeFault
-word-order schema pool ws depth s = go (missing ws s) _ malformed
-  where
-    go : (b : Bool) (x n : ℕ) → cond b n x ≡ cond (not b) x n
-    go true x n = refl
-    go false x n = refl
+word-order schema pool ws depth s = or-missing (missing ws s) _ malformed
+
+-- and in a literal's
+pub literal-order : (schema pool ws : List ℕ) (pattern : Bool) (c : Column) (s : Progress)
+    → checkLiteral schema pool ws pattern c s
+    ≡ passes
+    (firstFailing
+    (test (not (missing ws s)) malformed
+    ∷ test (plain (getD ws (s .place) 0)) malformed
+    ∷ test (literalLimited s (getD ws (s .place) 0)) overLimit
+    ∷ test (suits pool (typeIn schema (c .0)) (getD ws (s .place) 0) && patterned pattern pool (getD ws (s .place) 0)) misfit
+    ∷ [])
+    0)
+    (Passed (afterLiteral s (getD ws (s .place) 0)))
+unfolding checkLiteral
+literal-order schema pool ws pattern c s =
+    ap (λ (n : ℕ). passes n (Passed (afterLiteral s (getD ws (s .place) 0)))) (or-missing (missing ws s) _ malformed)
 
 -- pruning: 1, 7, 8, 9, 10
 abbrev pub pruneTests : Call → List Test

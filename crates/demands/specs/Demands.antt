@@ -4,14 +4,14 @@ use mathlib.Core.Path.{_≡_, subst}
 use mathlib.Core.Bool.{false, _&&_}
 use mathlib.Core.Logic.{_⊎_, _↔_}
 use mathlib.Core.List.{List, [], _∷_}
-use Prim.Native.Nat.{ℕ, _*_, _/_, _%_, _<_}
+use Prim.Native.Nat.{ℕ, _+_, _*_, _/_, _%_, _<_}
 use lib.ListN.{length, getD}
 use lib.Dec.{eqb, leb}
 use Rattle.limits.specs.Limits.{maxListLimit, maxPoolBytes, maxContainers, badSchema, badLimit, noRoom, malformed, badContainers, badTable, badGrid, badAnswers}
 use Rattle.words.specs.Word.{wordsOf}
 use Rattle.operators.specs.declared.Operator.{Operator}
 use Rattle.kleene.specs.declared.Truth.the-variants.{True}
-use Rattle.literals.specs.Literals.{Value, null, integerType}
+use Rattle.literals.specs.Literals.{Value, null, typeOf, nullType, integerType}
 use Rattle.predicate.specs.declared.Column.{Column}
 use Rattle.predicate.specs.Predicates.{comparison}
 use Rattle.predicate.specs.Checking.{schemaFine, typeIn, predicateFault}
@@ -19,6 +19,7 @@ use Rattle.predicate.specs.Calls.{roomy}
 use Rattle.predicate.specs.Meaning.{Row, meaning}
 use Rattle.predicate.specs.Rows.{In}
 use Rattle.statistics.specs.declared.Statistic.{Statistic}
+use Rattle.statistics.specs.Statistics.{placeOf}
 use Rattle.table.specs.Rewriting.{rewritten}
 use Rattle.table.specs.Worth.{Cells, worth}
 use Rattle.table.specs.Fitting.{FitCells}
@@ -35,7 +36,7 @@ use Rattle.demands.specs.Rows as Rows
 use Rattle.demands.specs.Rows.{Fit}
 use Rattle.demands.specs.Sharp as Sharp
 use Rattle.demands.specs.Sharp.{Literal, Possible, Possibly}
-use Rattle.demands.specs.Rounds.{round-drops, round-keeps, fit-without}
+use Rattle.demands.specs.Rounds.{round-drops, round-keeps, missing-cell, fit-without}
 
 -- ---- 1. every byte sequence
 
@@ -82,7 +83,7 @@ every-byte-sequence = (
   flag-bit,
 )
 
--- A refusal is given exactly where its test fails and all before it pass.
+-- A refusal is given exactly where its test fails and all before it pass (in a word of the predicate: word-order, literal-order).
 abbrev pub InOrder : Type 0
 InOrder = (ts : List Test) (rest n : ℕ) → (firstFailing ts rest ≡ n) ↔ (FailsFirst n ts ⊎ (AllPass ts × (rest ≡ n)))
 
@@ -135,13 +136,14 @@ EntriesDropNoMatch =
 pub entries-drop-no-match : EntriesDropNoMatch
 entries-drop-no-match = round-drops
 
--- Whatever statistics are missing: rows that fit cells fit them with any of them absent.
+-- Whatever statistics are missing: a grid word of type 0 is an absent cell, and rows that fit cells fit them with any of them absent.
 abbrev pub WhateverIsMissing : Type 0
 WhateverIsMissing =
-    (cells fewer : Cells) (rows : List Row) → ((s : Statistic) → (fewer s ≡ null) ⊎ (fewer s ≡ cells s)) → FitCells cells rows → FitCells fewer rows
+    ((c : Call) (i : ℕ) (s : Statistic) → typeOf (getD (wordsOf (c .grid)) (i * length (listIn c) + placeOf s (listIn c)) 0) ≡ nullType → cellsIn c i s ≡ null)
+    × ((cells fewer : Cells) (rows : List Row) → ((s : Statistic) → (fewer s ≡ null) ⊎ (fewer s ≡ cells s)) → FitCells cells rows → FitCells fewer rows)
 
 pub whatever-is-missing : WhateverIsMissing
-whatever-is-missing = fit-without
+whatever-is-missing = (missing-cell, fit-without)
 
 -- Nothing better was possible. One integer comparison, column first, no flips, its literal not null unless the operator is a
 -- distinct-from; no answers; every statistic asked for present, least ≤ greatest, blanks ≤ rows, at least one row. If the block is kept,
