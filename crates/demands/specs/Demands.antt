@@ -40,7 +40,7 @@ use Rattle.demands.specs.Rounds.{round-drops, round-keeps, missing-cell,
 
 -- ---- 1. every byte sequence
 
--- Whatever the bytes, both entries answer: their contracts ask nothing of the caller, and every call has an outcome.
+-- Both entries answer: whatever the bytes, a call has an outcome that meets its contract, which asks nothing of the caller.
 abbrev pub Answering : Type 0
 Answering =
     ((a : Asked) (old : Buffers) → a .rooms ≡ roomsOf old → (c : RewriteCall) × (c .asked ≡ a) × (c .old ≡ old))
