@@ -323,6 +323,15 @@ rewrite-answered c = go (faultOf (c .asked)) refl
     go zero e = let d = accepted-by c e in record { refusal-is = d .0; refused = λ h. absurd (h refl); accepted = λ z. d .1 }
     go (suc n) e = let d = refused-call c n e in record { refusal-is = d .0; refused = λ h. d .1; accepted = λ z. absurd (omega arith) }
 
+-- its refusal, exactly
+pub rewrite-given : (c : RewriteCall) (n : ℕ)
+    → (refusalIn (c .answer) ≡ n)
+    ↔ (FailsFirst n (rewriteTests (c .asked))
+    ⊎ (AllPass (rewriteTests (c .asked)) × (predicateFault (c .asked .schema) (c .asked .pool) (wordsOf (c .asked .predicate)) ≡ n)))
+rewrite-given c n =
+    let a : Asked = c .asked in
+    rw (rewrite-answered c .refusal-is, rewrite-order a) (exactly (rewriteTests a) (predicateFault (a .schema) (a .pool) (wordsOf (a .predicate))) n)
+
 -- ---- pruning
 
 -- as many flags as containers are counted, none on a refusal
@@ -367,6 +376,9 @@ prune-answered c = go (pruneFault (c .given)) refl (c .contract)
           refused = λ h. ((rw (q, ne-eqb (suc n) 0 (λ z. omega arith)), d .flags ∙ ap (λ p. written (flagsOut p) (c .old)) o), tt);
           accepted = λ z. absurd (omega arith);
         }
+
+pub prune-given : (c : PruneCall) (n : ℕ) → (c .answer ≡ n) ↔ (FailsFirst n (pruneTests (c .given)) ⊎ (AllPass (pruneTests (c .given)) × (0 ≡ n)))
+prune-given c n = rw (prune-answered c .refusal-is, prune-order (c .given)) (exactly (pruneTests (c .given)) 0 n)
 
 -- a flag of an accepted call stands at its container's number
 pub flag-at : (c : PruneCall) → c .answer ≡ 0 → (i : ℕ) → i < c .given .containers → getD (c .new) i 0 ≡ flagIn (c .given) i

@@ -30,7 +30,7 @@ use Rattle.pruning.specs.Evaluating.{answersDrop, flagOf}
 use Rattle.spill.specs.Prune.{Call, flags, pruning, gridFine, listIn}
 use Rattle.spill.specs.Done.{Buffers}
 use Rattle.demands.specs.Calls.{Asked, faultOf, outcomeOf, askedFor, Blocks, callOf, cellsIn, roomsOf, RewriteCall, PruneCall, refusalIn, frontsOf, Round, predicateIn, flagByte}
-use Rattle.demands.specs.Bytes.{Test, test, firstFailing, FailsFirst, AllPass, exactly, Answered, rewriteBuffers, pruneBuffers, rewrite-order, prune-order, rewrite-answered, prune-answered, flag-bit}
+use Rattle.demands.specs.Bytes.{test, firstFailing, FailsFirst, AllPass, rewriteTests, pruneTests, rewrite-given, prune-given, Answered, rewriteBuffers, pruneBuffers, rewrite-order, prune-order, rewrite-answered, prune-answered, flag-bit}
 use Rattle.demands.specs.Predicates.{Reads, rewrite-some, rewrite-one, prune-some, prune-one, reads-back, round-flags}
 use Rattle.demands.specs.Rows as Rows
 use Rattle.demands.specs.Rows.{Fit}
@@ -83,12 +83,18 @@ every-byte-sequence = (
   flag-bit,
 )
 
--- A refusal is given exactly where its test fails and all before it pass (in a word of the predicate: word-order, literal-order).
+-- A refusal is given exactly where its test fails and all before it pass; behind rewriting's tests stands the fault of the predicate
+-- (in a word of it: word-order, literal-order).
 abbrev pub InOrder : Type 0
-InOrder = (ts : List Test) (rest n : ℕ) → (firstFailing ts rest ≡ n) ↔ (FailsFirst n ts ⊎ (AllPass ts × (rest ≡ n)))
+InOrder =
+    ((c : RewriteCall) (n : ℕ)
+    → (refusalIn (c .answer) ≡ n)
+    ↔ (FailsFirst n (rewriteTests (c .asked))
+    ⊎ (AllPass (rewriteTests (c .asked)) × (predicateFault (c .asked .schema) (c .asked .pool) (wordsOf (c .asked .predicate)) ≡ n))))
+    × ((c : PruneCall) (n : ℕ) → (c .answer ≡ n) ↔ (FailsFirst n (pruneTests (c .given)) ⊎ (AllPass (pruneTests (c .given)) × (0 ≡ n))))
 
 pub in-order : InOrder
-in-order = exactly
+in-order = (rewrite-given, prune-given)
 
 -- ---- 2. every predicate
 
