@@ -23,11 +23,12 @@ use Rattle.table.specs.Fitting.{Counts, Bounds, FitCells}
 use Rattle.pruning.specs.GridLaws.{cell-by, absent-cell}
 use Rattle.spill.specs.Rewrite.{Outcome}
 use Rattle.spill.specs.Prune.{Call, pruning, pruneFault, flags, flagIn, flagsFrom, listIn}
-use Rattle.demands.specs.Calls.{outcomeOf, callOf, cellsIn, Round, predicateIn, flagByte}
+use Rattle.spill.specs.Done.{Buffers}
+use Rattle.demands.specs.Calls.{Asked, faultOf, outcomeOf, Blocks, callOf, cellsIn, roomsOf, refusalIn, frontsOf, Round, predicateIn, flagByte}
 use Rattle.demands.specs.Rows.{Fit, flags-say, drops-no-match}
 use Rattle.demands.specs.Sharp.{Literal, Possible, Possibly, nothing-better}
-use Rattle.demands.specs.Bytes.{prune-answered, accepted-pruning, flag-at}
-use Rattle.demands.specs.Predicates.{accepted-is, fronts-are}
+use Rattle.demands.specs.Bytes.{rewrite-answered, prune-answered, accepted-pruning, flag-at}
+use Rattle.demands.specs.Predicates.{rewrite-some, prune-some, accepted-is, fronts-are}
 
 module _ (x : Round) where
   -- the pruning call by the definition's outputs
@@ -62,6 +63,29 @@ module _ (x : Round) where
       subst (λ k. Possibly k (predicateIn x) i) (sym given-is)
       (nothing-better (x .rewrite .asked) (x .blocks) all (accepted-is (x .rewrite) (x .rewrote)) flags-are i h (byte-is i 0 h ∙ z) none o c v is whole l
       (subst (λ k. Possible c (cellsIn k i) (listIn k)) given-is p))
+
+-- rounds there are: one of every accepted rewriting call and every pruning call by its outputs that is not refused
+pub some-round : (a : Asked) (old : Buffers) → a .rooms ≡ roomsOf old → faultOf a ≡ 0 → (b : Blocks) (bytes : List ℕ) → b .room ≡ length bytes
+    → pruneFault (callOf (a .schema) (outcomeOf a) b) ≡ 0 → (x : Round) × (x .rewrite .asked ≡ a) × (x .blocks ≡ b)
+some-round a old rooms e b bytes room z =
+    let c = rewrite-some a old rooms .0 in
+    let q : c .asked ≡ a = rewrite-some a old rooms .1 in
+    let w : refusalIn (c .answer) ≡ 0 = rewrite-answered c .refusal-is ∙ ap faultOf q ∙ e in
+    let g : Call = callOf (c .asked .schema) (frontsOf c) b in
+    let f : g ≡ callOf (a .schema) (outcomeOf a) b =
+    ap (λ (o : Outcome). callOf (c .asked .schema) o b) (fronts-are c w) ∙ ap (λ (k : Asked). callOf (k .schema) (outcomeOf k) b) q in
+    let d = prune-some g bytes room in (
+      record {
+        rewrite = c;
+        blocks = b;
+        prune = d .0;
+        rewrote = w;
+        lent-on = d .1;
+        pruned = prune-answered (d .0) .refusal-is ∙ ap pruneFault (d .1 ∙ f) ∙ z;
+      },
+      q,
+      refl,
+    )
 
 -- ---- missing statistics
 
