@@ -12,6 +12,7 @@ use Rattle.table.specs.Worth.{Cells}
 use Rattle.pruning.specs.Cells.{cellOf}
 use Rattle.spill.specs.Rewrite.{Outcome, writes, rewriting, predicateOf, answerLayout, tableOut, poolOut, statisticsOut, guaranteesOut}
 use Rattle.spill.specs.Prune.{Call, pruning, listIn}
+use Rattle.spill.specs.Rewriting.{roomsOf}
 use Rattle.spill.specs.Done.{Buffers, Rewrote, Flagged}
 use Rattle.spill.specs.Pruning as Pruning
 
@@ -62,15 +63,6 @@ abbrev pub cellsIn : Call → ℕ → Cells
 cellsIn c i = cellOf (c .schema) (c .cells) (listIn c) (wordsOf (c .grid)) i
 
 -- ---- calls of the entries: what they are given, their buffers before and after, their answer, and their contract
-
-abbrev pub roomsOf : Buffers → Rooms
-roomsOf b =
-    record {
-      table = length (b .table);
-      pool = length (b .pool);
-      statistics = length (b .statistics);
-      guarantees = length (b .guarantees);
-    }
 
 pub record RewriteCall : Type 0 where
   pub asked : Asked

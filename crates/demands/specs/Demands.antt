@@ -29,7 +29,8 @@ use Rattle.pruning.specs.Cells.{answersFine}
 use Rattle.pruning.specs.Evaluating.{answersDrop, flagOf}
 use Rattle.spill.specs.Prune.{Call, flags, pruning, gridFine, listIn}
 use Rattle.spill.specs.Done.{Buffers}
-use Rattle.demands.specs.Calls.{Asked, faultOf, outcomeOf, askedFor, Blocks, callOf, cellsIn, roomsOf, RewriteCall, PruneCall, refusalIn, frontsOf, Round, predicateIn, flagByte}
+use Rattle.spill.specs.Rewriting.{roomsOf}
+use Rattle.demands.specs.Calls.{Asked, faultOf, outcomeOf, askedFor, Blocks, callOf, cellsIn, RewriteCall, PruneCall, refusalIn, frontsOf, Round, predicateIn, flagByte}
 use Rattle.demands.specs.Bytes.{test, firstFailing, FailsFirst, AllPass, rewriteTests, pruneTests, rewrite-given, prune-given, Answered, rewriteBuffers, pruneBuffers, rewrite-order, prune-order, rewrite-answered, prune-answered, flag-bit}
 use Rattle.demands.specs.Predicates.{Reads, rewrite-some, rewrite-one, prune-some, prune-one, reads-back, round-flags}
 use Rattle.demands.specs.Rows as Rows

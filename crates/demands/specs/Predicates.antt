@@ -25,7 +25,8 @@ use Rattle.spill.specs.Prune.{Call, pruning, pruneFault, flagIn, gridFine, list
 use Rattle.words.specs.Stores.{written}
 use Rattle.spill.specs.Done.{Buffers, Rewrote, Flagged, rewrite-unique, prune-unique}
 use Rattle.spill.specs.Bounds.{taken, call-checked}
-use Rattle.demands.specs.Calls.{Asked, faultOf, outcomeOf, askedFor, Blocks, callOf, cellsIn, roomsOf, RewriteCall, PruneCall, refusalIn, frontsOf, Round, predicateIn, flagByte}
+use Rattle.spill.specs.Rewriting.{roomsOf}
+use Rattle.demands.specs.Calls.{Asked, faultOf, outcomeOf, askedFor, Blocks, callOf, cellsIn, RewriteCall, PruneCall, refusalIn, frontsOf, Round, predicateIn, flagByte}
 use Rattle.demands.specs.Rows as Rows
 use Rattle.demands.specs.Bytes.{test, firstFailing, prune-order, rewrite-answered, prune-answered, accepted-outcome, flag-at}
 

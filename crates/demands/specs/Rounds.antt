@@ -24,7 +24,8 @@ use Rattle.pruning.specs.GridLaws.{cell-by, absent-cell}
 use Rattle.spill.specs.Rewrite.{Outcome}
 use Rattle.spill.specs.Prune.{Call, pruning, pruneFault, flags, flagIn, flagsFrom, listIn}
 use Rattle.spill.specs.Done.{Buffers}
-use Rattle.demands.specs.Calls.{Asked, faultOf, outcomeOf, Blocks, callOf, cellsIn, roomsOf, refusalIn, frontsOf, Round, predicateIn, flagByte}
+use Rattle.spill.specs.Rewriting.{roomsOf}
+use Rattle.demands.specs.Calls.{Asked, faultOf, outcomeOf, Blocks, callOf, cellsIn, refusalIn, frontsOf, Round, predicateIn, flagByte}
 use Rattle.demands.specs.Rows.{Fit, flags-say, drops-no-match}
 use Rattle.demands.specs.Sharp.{Literal, Possible, Possibly, nothing-better}
 use Rattle.demands.specs.Bytes.{rewrite-answered, prune-answered, accepted-pruning, flag-at}
