@@ -22,6 +22,7 @@
 //! ```
 //!
 //! - [`Schema`], [`Predicate`] (begun with [`col`], or read by [`formula`]), [`Plan`], [`Block`]: by column name.
+//! - [`rows`]: a file of rows in blocks, and its summaries.
 //! - [`packed`]: the two calls over packed bytes, safe, with refusals as errors. [`Packed`] packs a predicate.
 //! - [`raw`]: the same over the caller's own buffers, answers as they come.
 //! - [`vectors`]: the recorded answers, and their replay.
@@ -39,6 +40,7 @@ pub mod plan;
 pub mod predicate;
 pub mod raw;
 pub mod refusal;
+pub mod rows;
 pub mod schema;
 pub mod value;
 pub mod vectors;
