@@ -139,14 +139,6 @@ fn limited(depth: usize, s: Progress, w: u64) -> bool
     predicate::count_of(w) as usize <= limits::MAX_LIST_LITERALS - s.listed
 }
 
-// The type of a column, 0 where it is not in the schema.
-pub fn type_in(schema: &[u8], c: Column) -> u8
-    ensures { λ r. ⌜ r ≡ typeIn (now (schema .entry)) (c .0) ⌝ }
-{
-    let i = c.0 as usize;
-    if i < schema.len() { schema[i] } else { 0 }
-}
-
 // Whether a column is in the schema.
 fn in_schema(schema: &[u8], c: Column) -> bool
     ensures { λ r. ⌜ r ≡ ltb (c .0) (length (now (schema .entry))) ⌝ }
@@ -164,7 +156,7 @@ fn flippable(schema: &[u8], c: Column, flips: u8) -> bool
     if flips == 0 {
         return true;
     }
-    type_in(schema, c) != Literal::TEXT
+    predicate::type_in(schema, c) != Literal::TEXT
 }
 
 // Whether a node's column is in the schema and of the type that the node wants.
@@ -175,12 +167,12 @@ pub fn columned(schema: &[u8], n: Node) -> bool
         Node::Constant(_) => true,
         Node::Join(_) => true,
         Node::Not => true,
-        Node::TruthColumn(c) => type_in(schema, c) == Literal::TRUTH,
+        Node::TruthColumn(c) => predicate::type_in(schema, c) == Literal::TRUTH,
         Node::IsNull(c) => in_schema(schema, c),
         Node::IsNotNull(c) => in_schema(schema, c),
         Node::Comparison(_, c, flips, _, _) => flippable(schema, c, flips),
         Node::List(_, c, flips, _) => flippable(schema, c, flips),
-        Node::Like(_, c, _) => type_in(schema, c) == Literal::TEXT,
+        Node::Like(_, c, _) => predicate::type_in(schema, c) == Literal::TEXT,
     }
 }
 
@@ -263,7 +255,7 @@ pub fn check_literal(
         return Checked::Refused(limits::MALFORMED);
     }
     let w = words::word_or_zero(words, at);
-    let fault = literal_fault(pool, pattern, type_in(schema, c), s, w);
+    let fault = literal_fault(pool, pattern, predicate::type_in(schema, c), s, w);
     if fault != 0 {
         return Checked::Refused(fault);
     }

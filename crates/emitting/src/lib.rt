@@ -134,7 +134,7 @@ fn write_compared(
     requires { ⌜ Few (now list) × LiteralFits l × Room (comparisonTable (now schema) o c flips first (valueOf (now input) l)) s (now table) (now pool) ⌝ }
     ensures { λ r. ⌜ Wrote (comparisonTable (now (schema .entry)) o c flips first (valueOf (now (input .entry)) l)) (listOf (now (list .entry))) s (now (table .entry)) (now (table .exit)) (now (pool .entry)) (now (pool .exit)) r ⌝ }
 {
-    let t = turning::turn(knowing::type_in(schema, c), o, flips, first, l);
+    let t = turning::turn(predicate::type_in(schema, c), o, flips, first, l);
     forms::write_turned(list, input, c, t, table, pool, s)
 }
 

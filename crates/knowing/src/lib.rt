@@ -81,14 +81,6 @@ pub fn known_constant(t: Truth) -> Known
     }
 }
 
-// The type of a column; 0 where it is not in the schema.
-pub fn type_in(schema: &[u8], c: Column) -> u8
-    ensures { λ r. ⌜ r ≡ typeIn (now (schema .entry)) (c .0) ⌝ }
-{
-    let i = c.0 as usize;
-    if i < schema.len() { schema[i] } else { 0 }
-}
-
 // What a comparison comes to.
 pub fn known_comparison(
     schema: &[u8],
@@ -100,7 +92,7 @@ pub fn known_comparison(
 ) -> Known
     ensures { λ r. ⌜ KnownComparison (now (schema .entry)) o c flips first l r ⌝ }
 {
-    match turning::turn(type_in(schema, c), o, flips, first, l) {
+    match turning::turn(predicate::type_in(schema, c), o, flips, first, l) {
         Turned::Against(_, _) => Known::Open,
         Turned::Unhandled => Known::True,
     }

@@ -22,17 +22,6 @@ ghost use Rattle.table.specs.Comparisons.{patternUpper, likeLists};
 ghost use Rattle.table.specs.Rewriting.{listOperator, notLists, comparisonStatistics, membersLists, listLists};
 ghost use Rattle.listing.specs.Listing.{Room, Grown, isBounded};
 
-// A column's type, 0 past the schema.
-fn type_in(schema: &[u8], c: Column) -> u8
-    ensures { λ r. ⌜ r ≡ typeIn (now (schema .entry)) (c .0) ⌝ }
-{
-    let i = c.0 as usize;
-    if i < schema.len() {
-        return schema[i];
-    }
-    0
-}
-
 // Lists what a comparison asks for; nothing where it is unhandled.
 pub fn list_turned(
     schema: &[u8],
@@ -48,20 +37,9 @@ pub fn list_turned(
     requires { ⌜ Room (comparisonStatistics (now schema) o c flips first (valueOf (now pool) l)) n (now list) ⌝ }
     ensures { λ r. ⌜ Grown (comparisonStatistics (now (schema .entry)) o c flips first (valueOf (now (pool .entry)) l)) n (now (list .entry)) (now (list .exit)) r ⌝ }
 {
-    match turning::turn(type_in(schema, c), o, flips, first, l) {
+    match turning::turn(predicate::type_in(schema, c), o, flips, first, l) {
         Turned::Against(p, _) => listing::list_comparison(list, n, c, p),
         Turned::Unhandled => n,
-    }
-}
-
-// The operator of a list's members.
-fn list_operator(neg: bool) -> Operator
-    ensures { λ r. ⌜ r ≡ listOperator neg ⌝ }
-{
-    if neg {
-        Operator::NotEqual
-    } else {
-        Operator::Equal
     }
 }
 
@@ -81,7 +59,7 @@ fn list_members(
     requires { ⌜ (at + k < 2 ^ 64) × Room (membersLists (now schema) neg c flips (valuesAt (now pool) (wordsOf (now words)) k at)) n (now list) ⌝ }
     ensures { λ r. ⌜ Grown (membersLists (now (schema .entry)) neg c flips (valuesAt (now (pool .entry)) (wordsOf (now (words .entry))) k at)) n (now (list .entry)) (now (list .exit)) r ⌝ }
 {
-    let o = list_operator(neg);
+    let o = knowing::list_operator(neg);
     let mut i = 0;
     let mut m = n;
     while i < k {

@@ -97,7 +97,7 @@ fn write_member(
     requires { ⌜ Few (now list) × LiteralFits l × Rooms (opens (memberTable (now schema) negated c flips (valueOf (now input) l) ∷ [])) s (now table) (now pool) ⌝ }
     ensures { λ r. ⌜ Ran (opens (memberTable (now (schema .entry)) negated c flips (valueOf (now (input .entry)) l) ∷ [])) (listOf (now (list .entry))) s (now (table .entry)) (now (table .exit)) (now (pool .entry)) (now (pool .exit)) r ⌝ }
 {
-    let kind = knowing::type_in(schema, c);
+    let kind = predicate::type_in(schema, c);
     let o = knowing::list_operator(negated);
     match turning::turn(kind, o, flips, false, l) {
         Turned::Against(p, k) => forms::write_comparison(list, input, c, p, k, table, pool, s),

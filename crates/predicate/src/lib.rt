@@ -10,6 +10,7 @@ ghost use Rattle.words.specs.Word.{wordsOf};
 ghost use Rattle.operators.specs.Operators.{operatorOf};
 ghost use Rattle.predicate.specs.Nodes.{kindOf, operatorField, columnOf, flipsOf, firstField, countOf, zeroField, constantOf, orEqual, negatedOf, nodeOf};
 ghost use Rattle.predicate.specs.Predicates.{nodeAt};
+ghost use Rattle.predicate.specs.Checking.{typeIn};
 
 // A column of the schema.
 pub struct Column(pub u8);
@@ -188,4 +189,12 @@ pub fn node_at(pool: &[u8], words: &[u8], at: usize) -> Node
     } else {
         node_of(pool, 0, 0)
     }
+}
+
+// The type of a column; 0 where it is not in the schema.
+pub fn type_in(schema: &[u8], c: Column) -> u8
+    ensures { λ r. ⌜ r ≡ typeIn (now (schema .entry)) (c .0) ⌝ }
+{
+    let i = c.0 as usize;
+    if i < schema.len() { schema[i] } else { 0 }
 }
