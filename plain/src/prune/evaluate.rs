@@ -1,0 +1,60 @@
+//! The value of a table over a container's cells.
+
+use std::cmp::Ordering;
+
+use super::grid::Cell;
+use crate::kleene::{Truth, and, not, or};
+use crate::literal::Value;
+use crate::predicate::Operator;
+use crate::statistic::Place;
+use crate::table::{Against, Table};
+
+pub fn evaluate(table: &Table, cells: &[Cell]) -> Truth {
+    match table {
+        Table::Constant(value) => Some(*value),
+        Table::And(first, second) => and(evaluate(first, cells), evaluate(second, cells)),
+        Table::Or(first, second) => or(evaluate(first, cells), evaluate(second, cells)),
+        Table::Not(inner) => not(evaluate(inner, cells)),
+        Table::Against(comparison) => against(comparison, cells),
+        Table::SomeBlank(blanks) => Some(count(cells, *blanks)? > 0),
+        Table::SomeValue { blanks, rows } => Some(count(cells, *blanks)? != count(cells, *rows)?),
+        Table::Truth(place) => match bound(cells, *place)? {
+            Value::Truth(value) => Some(*value),
+            _ => None,
+        },
+    }
+}
+
+fn against(comparison: &Against, cells: &[Cell]) -> Truth {
+    let bound = bound(cells, comparison.place)?;
+    let literal = comparison.literal.as_ref()?;
+    let ordering = if comparison.literal_first { literal.cmp(bound) } else { bound.cmp(literal) };
+    holds(comparison.operator, ordering)
+}
+
+/// Does the operator hold of two sides so ordered? The distinct-froms are not asked here.
+pub fn holds(operator: Operator, ordering: Ordering) -> Truth {
+    match operator {
+        Operator::Equal => Some(ordering.is_eq()),
+        Operator::NotEqual => Some(ordering.is_ne()),
+        Operator::Less => Some(ordering.is_lt()),
+        Operator::LessEqual => Some(ordering.is_le()),
+        Operator::Greater => Some(ordering.is_gt()),
+        Operator::GreaterEqual => Some(ordering.is_ge()),
+        Operator::DistinctFrom | Operator::NotDistinctFrom => None,
+    }
+}
+
+fn count(cells: &[Cell], place: Place) -> Option<u64> {
+    match cells[place.0 as usize] {
+        Cell::Count(count) => Some(count),
+        _ => None,
+    }
+}
+
+fn bound<'c, 'a>(cells: &'c [Cell<'a>], place: Place) -> Option<&'c Value<'a>> {
+    match &cells[place.0 as usize] {
+        Cell::Bound(value) => Some(value),
+        _ => None,
+    }
+}
