@@ -1,5 +1,7 @@
 //! Calls that own their bytes, and the lent outputs of a call after it.
 
+use std::sync::LazyLock;
+
 use crate::prune::PruneCall;
 use crate::rewrite::{RewriteCall, Rooms};
 use crate::word::field;
@@ -113,5 +115,9 @@ impl Pruned {
 
 /// What outputs hold before a call: never 0 or 1, and not the same byte twice in a row.
 fn pattern(length: usize) -> Vec<u8> {
-    (0..length).map(|i| 0xA0 | (i % 13) as u8).collect()
+    static PATTERN: LazyLock<Vec<u8>> = LazyLock::new(|| (0..1 << 15).map(|i| 0xA0 | (i % 13) as u8).collect());
+    match PATTERN.get(..length) {
+        Some(front) => front.to_vec(),
+        None => PATTERN.iter().copied().cycle().take(length).collect(),
+    }
 }

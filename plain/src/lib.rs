@@ -2,6 +2,8 @@
 //! predicate means on a row. It is compared with the proved library and timed against it.
 
 pub mod cases;
+pub mod differ;
+pub mod generate;
 pub mod guarantee;
 pub mod kleene;
 pub mod limits;
@@ -9,6 +11,7 @@ pub mod literal;
 pub mod meaning;
 pub mod predicate;
 pub mod prune;
+pub mod random;
 pub mod reader;
 pub mod recorded;
 pub mod refusal;

@@ -40,7 +40,8 @@ impl Subject for Plain {
     }
 }
 
-/// Writes the counted front; the rest keeps what it held.
+/// Writes the counted front; the rest keeps what it held. Only a mistake could write too much.
 pub fn front(lent: &mut [u8], written: &[u8]) {
-    lent[..written.len()].copy_from_slice(written);
+    let length = written.len().min(lent.len());
+    lent[..length].copy_from_slice(&written[..length]);
 }
