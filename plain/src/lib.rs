@@ -6,6 +6,7 @@ pub mod differ;
 pub mod generate;
 pub mod guarantee;
 pub mod kleene;
+pub mod library;
 pub mod limits;
 pub mod literal;
 pub mod meaning;

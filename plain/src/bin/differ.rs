@@ -1,6 +1,7 @@
 //! A long differential run: `differ [cases] [seed] [mutant]`. Ends with 1 if anything differs.
 
 use plain::differ::Run;
+use plain::library::Library;
 use plain::rules::{Mutant, Rules};
 use plain::subject::Plain;
 
@@ -16,7 +17,7 @@ fn main() {
         named.expect("the name of a mutant")
     });
     let plain = Plain { rules: mutant.map_or(Rules::SOUND, Rules::with) };
-    let report = Run::new(plain, &Plain::default()).cases(seed, 0, cases);
+    let report = Run::new(plain, &Library).cases(seed, 0, cases);
     println!("{cases} cases, seed {seed}\n{report}");
     std::process::exit(!report.is_clean() as i32);
 }

@@ -65,7 +65,7 @@ fn change_room(random: &mut Random, case: &mut RewriteCase) {
         2 => &mut rooms.statistics,
         _ => &mut rooms.guarantees,
     };
-    *room = random.pick(&[*room - 1, *room + 1, *room + 8, 0]);
+    *room = random.pick(&[room.saturating_sub(1), *room + 1, *room + 8, 0]);
 }
 
 pub fn pruning(random: &mut Random, case: &mut PruneCase) {
