@@ -2,6 +2,7 @@
 //! too: a container that the subject drops holds no row that the predicate is true of.
 
 mod report;
+mod sweeps;
 
 use crate::cases::{PruneCase, RewriteCase};
 use crate::generate::{damage, grids, limits, predicates, rows, tables};

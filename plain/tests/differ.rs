@@ -6,7 +6,7 @@ use plain::rules::{Mutant, Rules};
 use plain::subject::{Plain, Subject};
 
 const CASES: u64 = 100_000;
-const MUTANT_CASES: u64 = 20_000;
+const MUTANT_CASES: u64 = 40_000;
 
 fn run(rules: Rules, subject: &dyn Subject, seed: u64, cases: u64) -> Report {
     Run::new(Plain { rules }, subject).cases(seed, 0, cases)
@@ -20,6 +20,13 @@ fn library_answers_as_the_plain_rust() {
     assert!(report.results.iter().all(|count| *count > 100), "a refusal is hardly tried");
     assert!(report.kept > 10_000 && report.dropped > 10_000, "flags are one-sided");
     assert!(report.row_dropped > 10_000 && report.matching_rows > 10_000, "rows are one-sided");
+}
+
+#[test]
+fn library_answers_alike_in_sweeps() {
+    let report = Run::new(Plain::default(), &Library).sweep(5);
+    println!("{report}");
+    assert!(report.is_clean(), "{report}");
 }
 
 #[test]

@@ -17,7 +17,9 @@ fn main() {
         named.expect("the name of a mutant")
     });
     let plain = Plain { rules: mutant.map_or(Rules::SOUND, Rules::with) };
+    let sweep = Run::new(plain, &Library).sweep(seed);
+    println!("sweeps\n{sweep}\n");
     let report = Run::new(plain, &Library).cases(seed, 0, cases);
     println!("{cases} cases, seed {seed}\n{report}");
-    std::process::exit(!report.is_clean() as i32);
+    std::process::exit(!(sweep.is_clean() && report.is_clean()) as i32);
 }

@@ -88,8 +88,16 @@ impl Builder<'_> {
         let operator = self.random.below(8) as u8;
         let literal_first = self.random.one_in(3);
         self.packer.node(Node { operator, flips, literal_first, ..node });
-        let literal = values::literal(self.random, column_type);
+        let literal = self.literal(column_type, flips);
         self.packer.scattered(self.random, &literal);
+    }
+
+    /// A literal; below a minus it is often the one that can't be negated.
+    fn literal(&mut self, column_type: Type, flips: u8) -> Literal<'static> {
+        if column_type == Type::Integer && flips > 0 && self.random.one_in(6) {
+            return Some(Value::Integer(i64::MIN));
+        }
+        values::literal(self.random, column_type)
     }
 
     fn list(&mut self, node: Node, column_type: Type) {
@@ -100,7 +108,7 @@ impl Builder<'_> {
         let operator = self.random.coin() as u8;
         self.packer.node(Node { operator, flips, count, ..node });
         for _ in 0..count {
-            let literal = values::literal(self.random, column_type);
+            let literal = self.literal(column_type, flips);
             self.packer.scattered(self.random, &literal);
         }
     }

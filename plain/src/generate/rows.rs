@@ -44,6 +44,7 @@ fn value(random: &mut Random, of: Type, near: &[Value<'static>]) -> Value<'stati
         return near[random.below(near.len())].clone();
     }
     match of {
+        Type::Text if random.one_in(4) => text(values::stem(random)),
         Type::Text => text(values::text(random)),
         _ => values::value(random, of),
     }

@@ -57,7 +57,8 @@ pub fn text(random: &mut Random) -> String {
 pub fn pattern(random: &mut Random) -> String {
     if random.one_in(3) {
         let edge = random.pick(&CHARACTERS);
-        return format!("{}{edge}%", text(random));
+        let before = if random.one_in(4) { stem(random) } else { text(random) };
+        return format!("{before}{edge}%");
     }
     let length = random.between(0, 5);
     let mut piece = || match random.below(6) {
@@ -68,11 +69,44 @@ pub fn pattern(random: &mut Random) -> String {
     (0..length).map(|_| piece()).collect()
 }
 
-/// Bytes of a text literal or cell: mostly UTF-8.
+/// Bytes of a text literal or cell: mostly UTF-8, now and then a long stem that ends otherwise.
 pub fn bytes(random: &mut Random) -> Vec<u8> {
-    let mut bytes = text(random).into_bytes();
+    let mut bytes = if random.one_in(3) { stem(random).into_bytes() } else { text(random).into_bytes() };
     if random.one_in(8) {
         bytes.push(random.next() as u8);
+    }
+    bytes
+}
+
+/// Texts that agree for a while, over several words, and then differ by a character or an end.
+pub fn stem(random: &mut Random) -> String {
+    let length = random.pick(&[6, 7, 8, 9, 15, 16, 17, 24]);
+    let mut stem = "m".repeat(length);
+    match random.below(3) {
+        0 => stem.push(random.pick(&['\0', 'l', 'm', 'n', '\u{7F}', '\u{80}'])),
+        1 => stem.replace_range(length - 2..length - 1, "n"),
+        _ => {}
+    }
+    stem
+}
+
+/// Bytes at the edges of what is UTF-8, as a pattern.
+pub fn nearly_utf8(random: &mut Random) -> Vec<u8> {
+    const FIRST: [u8; 20] = [
+        0x00, 0x7F, 0x80, 0xBF, 0xC0, 0xC1, 0xC2, 0xDF, 0xE0, 0xE1, 0xEC, 0xED, 0xEE, 0xEF, 0xF0, 0xF1, 0xF3, 0xF4,
+        0xF5, 0xFF,
+    ];
+    const LATER: [u8; 12] = [0x80, 0x80, 0xBF, 0xBF, 0x8F, 0x90, 0x9F, 0xA0, 0x7F, 0xC0, 0x00, 0xFF];
+    let mut bytes = text(random).into_bytes();
+    let first = random.pick(&FIRST);
+    bytes.push(first);
+    let wanted = (first.leading_ones() as usize).clamp(1, 5) - 1;
+    let length = if random.one_in(8) { random.below(5) } else { wanted };
+    for _ in 0..length {
+        bytes.push(random.pick(&LATER));
+    }
+    if random.coin() {
+        bytes.push(b'%');
     }
     bytes
 }

@@ -2,7 +2,8 @@
 //!
 //! - `bench`: every table.
 //! - `bench list`: the names of the single variants.
-//! - `bench run NAME TIMES`: one variant so many times, for counting instructions.
+//! - `bench run NAME TIMES`: one variant so many times, for counting instructions. 0 times
+//!   counts the making of the inputs, to be taken off.
 
 mod grid_loop;
 mod packed;

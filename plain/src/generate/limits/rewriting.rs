@@ -14,7 +14,7 @@ use crate::word::push;
 /// A call at one of the limits, or one past it.
 pub fn rewriting(random: &mut Random) -> RewriteCase {
     let past = random.coin() as usize;
-    match random.below(14) {
+    match random.below(16) {
         0 => columns(random, limits::COLUMNS + past),
         1 => nodes(random, past),
         2 => depth(random, limits::DEPTH + past),
@@ -28,7 +28,8 @@ pub fn rewriting(random: &mut Random) -> RewriteCase {
         10 => most_statistics(random),
         11 => most_guarantees(random),
         12 => largest_table(random),
-        _ => offsets(random, past),
+        13 => offsets(random, past),
+        _ => nearly_utf8(random),
     }
 }
 
@@ -241,4 +242,12 @@ fn offsets(random: &mut Random, past: usize) -> RewriteCase {
     };
     push(&mut packer.words, LiteralWord::write(column_type as u8, length, offset));
     case(&[column_type], packer)
+}
+
+/// A pattern at the edges of UTF-8.
+fn nearly_utf8(random: &mut Random) -> RewriteCase {
+    let mut packer = Packer::default();
+    packer.node(Node { kind: 9, operator: random.one_in(4) as u8, ..Node::default() });
+    packer.literal(&Some(Value::Text(Cow::Owned(values::nearly_utf8(random)))));
+    case(&[Type::Text], packer)
 }
