@@ -62,7 +62,8 @@ fn run_rt(root: &Path) {
             String::from_utf8_lossy(&done.stderr)
         )),
         Err(e) if e.kind() == io::ErrorKind::NotFound => fail(
-            "`rt` is not on the PATH. Install the Rattle toolchain, which has it, or set SPILL_ARCHIVE_DIR to the folder of a ready libspill.a",
+            "`rt` is not on the PATH. Install the Rattle toolchain, which has it, \
+             or set SPILL_ARCHIVE_DIR to the folder of a ready libspill.a",
         ),
         Err(e) => fail(&format!("`rt` could not be run: {e}")),
     }
