@@ -29,7 +29,7 @@ impl<'s> Run<'s> {
     pub fn cases(mut self, seed: u64, from: u64, to: u64) -> Report {
         for number in from..to {
             self.report.number = number;
-            self.case(&mut Random::new(Random::new(seed ^ number.rotate_left(32)).next()));
+            self.case(&mut Random::new(Random::new(seed ^ number.rotate_left(32)).word()));
         }
         self.report
     }

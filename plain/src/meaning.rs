@@ -5,7 +5,6 @@ use std::cmp::Ordering;
 use crate::kleene::{Truth, and, not, or};
 use crate::literal::{Literal, Value};
 use crate::predicate::{Comparison, Like, List, Operand, Operator, Predicate};
-use crate::prune::evaluate::holds;
 use crate::text::matches;
 
 /// A row: a value, or null for blank, for each column.
@@ -37,7 +36,7 @@ fn compare(comparison: &Comparison, row: &Row) -> Truth {
         Operator::NotDistinctFrom => Some(!distinct(ordering, *operand, row, literal)),
         _ => {
             let ordering = ordering?;
-            holds(*operator, if *literal_first { ordering.reverse() } else { ordering })
+            operator.holds(if *literal_first { ordering.reverse() } else { ordering })
         }
     }
 }

@@ -1,5 +1,7 @@
 //! Predicates as a tree: what the packed words say, once they are checked.
 
+use std::cmp::Ordering;
+
 use crate::literal::{Literal, Type};
 
 #[derive(Clone, Copy, Debug, PartialEq, Eq)]
@@ -38,6 +40,19 @@ impl Operator {
             Operator::LessEqual => Some(Operator::GreaterEqual),
             Operator::Greater => Some(Operator::Less),
             Operator::GreaterEqual => Some(Operator::LessEqual),
+            Operator::DistinctFrom | Operator::NotDistinctFrom => None,
+        }
+    }
+
+    /// Does it hold of two sides so ordered? The distinct-froms are not asked here.
+    pub fn holds(self, ordering: Ordering) -> Option<bool> {
+        match self {
+            Operator::Equal => Some(ordering.is_eq()),
+            Operator::NotEqual => Some(ordering.is_ne()),
+            Operator::Less => Some(ordering.is_lt()),
+            Operator::LessEqual => Some(ordering.is_le()),
+            Operator::Greater => Some(ordering.is_gt()),
+            Operator::GreaterEqual => Some(ordering.is_ge()),
             Operator::DistinctFrom | Operator::NotDistinctFrom => None,
         }
     }

@@ -1,6 +1,7 @@
 //! The row meaning on its own: what comparisons, lists and LIKE say of single values.
 
 use std::borrow::Cow;
+use std::slice::from_ref;
 
 use plain::kleene::{and, not, or};
 use plain::literal::{Literal, Type, Value};
@@ -39,7 +40,7 @@ fn three_values() {
 fn minus_is_exact() {
     let least = integer(i64::MIN);
     let above = compared(1, Operator::Greater, integer(i64::MAX));
-    assert_eq!(meaning(&above, &[least.clone()]), Some(true));
+    assert_eq!(meaning(&above, from_ref(&least)), Some(true));
     let twice = compared(2, Operator::Equal, integer(i64::MIN));
     assert_eq!(meaning(&twice, &[least]), Some(true));
 }
@@ -79,9 +80,9 @@ fn like_with_nothing_is_unknown() {
     let text = Some(Value::Text(Cow::Borrowed(&b"a"[..])));
     for negated in [false, true] {
         let null = Predicate::Like(Like { column: 0, negated, pattern: None });
-        assert_eq!(meaning(&null, &[text.clone()]), None);
+        assert_eq!(meaning(&null, from_ref(&text)), None);
         let any = Predicate::Like(Like { column: 0, negated, pattern: Some("%") });
         assert_eq!(meaning(&any, &[None]), None);
-        assert_eq!(meaning(&any, &[text.clone()]), Some(!negated));
+        assert_eq!(meaning(&any, from_ref(&text)), Some(!negated));
     }
 }

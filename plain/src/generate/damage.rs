@@ -11,7 +11,7 @@ fn damage_bytes(random: &mut Random, bytes: &mut Vec<u8>) {
     let at = random.below(bytes.len());
     match random.below(8) {
         0..=2 => bytes[at] ^= 1 << random.below(8),
-        3 => bytes[at] = random.next() as u8,
+        3 => bytes[at] = random.word() as u8,
         4 => bytes.truncate(at),
         5 => bytes.truncate(at / 8 * 8),
         6 => bytes.extend_from_within(at / 8 * 8..(at / 8 * 8 + 8).min(bytes.len())),
@@ -37,7 +37,7 @@ fn damage_word(random: &mut Random, bytes: &mut [u8]) {
         4 => word[3] ^= 0x80,
         5 => word[4] = random.below(4) as u8,
         6 => word[random.between(5, 6)] = random.below(3) as u8,
-        _ => word[7] = random.next() as u8,
+        _ => word[7] = random.word() as u8,
     }
 }
 

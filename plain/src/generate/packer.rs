@@ -63,7 +63,7 @@ impl Packer {
                 offset = self.pool.windows(bytes.len()).position(|shared| shared == bytes);
             }
             if random.one_in(6) {
-                self.pool.push(random.next() as u8);
+                self.pool.push(random.word() as u8);
             }
         }
         let offset = offset.unwrap_or_else(|| {

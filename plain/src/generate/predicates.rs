@@ -78,7 +78,7 @@ impl Builder<'_> {
     }
 
     fn flips(&mut self, column_type: Type) -> u8 {
-        let any = self.random.next() as u8;
+        let any = self.random.word() as u8;
         let flips = self.random.pick(&[0, 0, 0, 0, 1, 1, 2, 3, any]);
         if column_type == Type::Text { 0 } else { flips }
     }

@@ -38,7 +38,7 @@ const CHARACTERS: [char; 24] = [
 
 pub fn integer(random: &mut Random) -> i64 {
     match random.below(20) {
-        0 => random.next() as i64,
+        0 => random.word() as i64,
         1..=9 => random.between(0, 6) as i64 - 3,
         _ => random.pick(&INTEGERS),
     }
@@ -73,7 +73,7 @@ pub fn pattern(random: &mut Random) -> String {
 pub fn bytes(random: &mut Random) -> Vec<u8> {
     let mut bytes = if random.one_in(3) { stem(random).into_bytes() } else { text(random).into_bytes() };
     if random.one_in(8) {
-        bytes.push(random.next() as u8);
+        bytes.push(random.word() as u8);
     }
     bytes
 }

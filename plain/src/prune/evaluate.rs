@@ -1,11 +1,8 @@
 //! The value of a table over a container's cells.
 
-use std::cmp::Ordering;
-
 use super::grid::Cell;
 use crate::kleene::{Truth, and, not, or};
 use crate::literal::Value;
-use crate::predicate::Operator;
 use crate::statistic::Place;
 use crate::table::{Against, Table};
 
@@ -29,20 +26,7 @@ fn against(comparison: &Against, cells: &[Cell]) -> Truth {
     let bound = bound(cells, comparison.place)?;
     let literal = comparison.literal.as_ref()?;
     let ordering = if comparison.literal_first { literal.cmp(bound) } else { bound.cmp(literal) };
-    holds(comparison.operator, ordering)
-}
-
-/// Does the operator hold of two sides so ordered? The distinct-froms are not asked here.
-pub fn holds(operator: Operator, ordering: Ordering) -> Truth {
-    match operator {
-        Operator::Equal => Some(ordering.is_eq()),
-        Operator::NotEqual => Some(ordering.is_ne()),
-        Operator::Less => Some(ordering.is_lt()),
-        Operator::LessEqual => Some(ordering.is_le()),
-        Operator::Greater => Some(ordering.is_gt()),
-        Operator::GreaterEqual => Some(ordering.is_ge()),
-        Operator::DistinctFrom | Operator::NotDistinctFrom => None,
-    }
+    comparison.operator.holds(ordering)
 }
 
 fn count(cells: &[Cell], place: Place) -> Option<u64> {

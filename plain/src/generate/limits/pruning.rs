@@ -52,7 +52,7 @@ fn with_cells(case: PruneCase, containers: usize, cell: u64, cell_pool: Vec<u8>)
 
 fn containers(random: &mut Random, count: usize) -> PruneCase {
     let cell = LiteralWord::write(Type::Text as u8, 1, 0);
-    with_cells(text_bound(1), count, cell, vec![random.pick(&[b'a', b'b'])])
+    with_cells(text_bound(1), count, cell, vec![random.pick(b"ab")])
 }
 
 fn short_flags(past: usize) -> PruneCase {
@@ -153,7 +153,7 @@ fn answer_bytes(random: &mut Random) -> PruneCase {
     push(&mut case.guarantees, 0);
     push(&mut case.guarantees, put(1, 8, 1));
     case.answers = vec![0; 4];
-    case.answers[random.below(4)] = random.next() as u8;
+    case.answers[random.below(4)] = random.word() as u8;
     case
 }
 
