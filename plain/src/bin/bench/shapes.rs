@@ -82,6 +82,18 @@ pub fn nodes(name: &str, depth: u32) -> Shape {
     shape(name, &[Type::Integer], packer)
 }
 
+/// 64 columns, each named once: the longest statistics list.
+pub fn columns() -> Shape {
+    let mut packer = Packer::default();
+    let mut column = 0;
+    let mut leaf = |packer: &mut Packer| {
+        compared(packer, column, 0, 5);
+        column += 1;
+    };
+    lean(&mut packer, 1, &mut leaf, 127, 7);
+    shape("64 columns, = on each", &[Type::Integer; 64], packer)
+}
+
 /// A tree of an odd number of nodes whose first children are as small as the depth allows.
 fn lean(packer: &mut Packer, kind: u8, leaf: &mut dyn FnMut(&mut Packer), nodes: usize, depth: u32) {
     if nodes == 1 {

@@ -33,29 +33,35 @@ fn rewriting() {
     }
 }
 
-/// Predicates that grow, with table words and depth, to see that time grows no faster.
+/// Predicates that grow, with their words and depth: time should grow no faster than both together.
 fn growth() {
     println!("\n### How rewriting grows\n");
-    println!("| predicate | words | depth | library | plain Rust | ratio | library by word |");
-    println!("|---|---|---|---|---|---|---|");
+    println!("Words are those of predicate and table together.\n");
+    println!("| predicate | words | depth | library | plain Rust | ratio | by word | by word × depth |");
+    println!("|---|---|---|---|---|---|---|---|");
     let lists = [1, 16, 64, 256].map(|count| (shapes::list(count), 1));
     let trees = [("255 nodes, balanced", 8), ("255 nodes, deep", 32)];
     let trees = trees.map(|(name, depth)| (shapes::nodes(name, depth), depth));
-    for (shape, depth) in lists.into_iter().chain(trees) {
+    let wide = (shapes::columns(), 7);
+    for (shape, depth) in lists.into_iter().chain(trees).chain([wide]) {
         agree_on_rewriting(&shape);
-        let answer = answer_word(&rewrite(&Rules::SOUND, &shape.case.call()));
-        let words = shape.case.predicate.len() / 8 + (answer >> 40 & 0xFFFF) as usize;
         let times = time(&mut variants::rewriting("", &shape.case));
-        let (library, plain) = (times[0], times[1]);
-        println!(
-            "| {} | {words} | {depth} | {} | {} | {:.2} | {:.1} ns |",
-            shape.name,
-            shown(library),
-            shown(plain),
-            library / plain,
-            library / words as f64
-        );
+        grown(&shape, depth, times[0], times[1]);
     }
+}
+
+fn grown(shape: &Shape, depth: u32, library: f64, plain: f64) {
+    let answer = answer_word(&rewrite(&Rules::SOUND, &shape.case.call()));
+    let words = shape.case.predicate.len() / 8 + (answer >> 40 & 0xFFFF) as usize;
+    let by_word = library / words as f64;
+    println!(
+        "| {} | {words} | {depth} | {} | {} | {:.2} | {by_word:.1} ns | {:.1} ns |",
+        shape.name,
+        shown(library),
+        shown(plain),
+        library / plain,
+        by_word / depth as f64
+    );
 }
 
 fn pruning() {
