@@ -82,7 +82,7 @@ pub fn known_constant(t: Truth) -> Known
 }
 
 // The type of a column; 0 where it is not in the schema.
-fn type_in(schema: &[u8], c: Column) -> u8
+pub fn type_in(schema: &[u8], c: Column) -> u8
     ensures { λ r. ⌜ r ≡ typeIn (now (schema .entry)) (c .0) ⌝ }
 {
     let i = c.0 as usize;
@@ -114,7 +114,7 @@ fn least(a: usize, b: usize) -> usize
 }
 
 // The bytes that a range names, as far as the pool has them.
-fn clipped(pool: &[u8], r: Range) -> &[u8]
+pub fn clipped(pool: &[u8], r: Range) -> &[u8]
     ensures { λ s. ⌜ now s ≡ rangeOf (now (pool .entry)) r ⌝ }
 {
     let at = least(r.at, pool.len());
@@ -151,7 +151,7 @@ pub fn known_like(pool: &[u8], negated: bool, l: Literal) -> Known
 }
 
 // The operator of a list's members.
-fn list_operator(negated: bool) -> Operator
+pub fn list_operator(negated: bool) -> Operator
     ensures { λ r. ⌜ r ≡ listOperator negated ⌝ }
 {
     if negated {
@@ -162,14 +162,14 @@ fn list_operator(negated: bool) -> Operator
 }
 
 // How a list's members are joined.
-fn list_joining(negated: bool) -> Joining
+pub fn list_joining(negated: bool) -> Joining
     ensures { λ r. ⌜ r ≡ listJoining negated ⌝ }
 {
     if negated { Joining::And } else { Joining::Or }
 }
 
 // What a list's member comes to whose literal word stands at a place.
-fn known_member(
+pub fn known_member(
     schema: &[u8],
     pool: &[u8],
     words: &[u8],

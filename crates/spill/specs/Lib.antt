@@ -3,3 +3,4 @@ pub mod Prune
 pub mod Bounds
 pub mod Done
 pub mod Pruning
+pub mod Rewriting
