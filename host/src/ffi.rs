@@ -103,6 +103,7 @@ pub(crate) fn prune(input: PruneInput, flags: &mut [u8]) -> u64 {
 #[cfg(test)]
 mod tests {
     use super::*;
+    use crate::raw;
     use std::ptr::{null, null_mut};
 
     #[test]
@@ -128,6 +129,35 @@ mod tests {
             )
         };
         assert_eq!(answer, 3 << 56);
+    }
+
+    #[test]
+    fn an_accepted_call_of_rewriting_takes_null_inputs() {
+        // Constant true over no columns and no pool: one table word is written.
+        let predicate = [0x01u8, 0, 0, 0, 0, 0, 0, 0];
+        let rooms = [raw::TABLE_ROOM, raw::TABLE_POOL_ROOM, raw::STATISTICS_ROOM, raw::GUARANTEES_ROOM];
+        let [mut t, mut p, mut s, mut g] = rooms.map(|room| vec![0xEEu8; room]);
+        let answer = unsafe {
+            spill_rewrite(
+                null(),
+                0,
+                predicate.as_ptr(),
+                8,
+                null(),
+                0,
+                20,
+                t.as_mut_ptr(),
+                t.len(),
+                p.as_mut_ptr(),
+                p.len(),
+                s.as_mut_ptr(),
+                s.len(),
+                g.as_mut_ptr(),
+                g.len(),
+            )
+        };
+        assert_eq!(answer, 1 << 40);
+        assert_eq!(t[..9], [0x01, 0, 0, 0, 0, 0, 0, 0, 0xEE]);
     }
 
     #[test]

@@ -1,5 +1,30 @@
 //! The two functions over the caller's own buffers, with the answers as they come: for differential runs, benchmarks
 //! and whoever keeps buffers. Safe: the outputs are exclusive borrows, so none overlaps an input.
+//!
+//! ```
+//! use filughjosa::raw::{PruneInput, prune_into};
+//! // One word, constant true, over no columns.
+//! let table = [1, 0, 0, 0, 0, 0, 0, 0];
+//! let input = PruneInput {
+//!     schema: &[], table: &table, table_pool: &[], statistics: &[], guarantees: &[],
+//!     containers: 3, grid: &[], cell_pool: &[], answers: &[],
+//! };
+//! let mut flags = [7; 4];
+//! assert_eq!(prune_into(input, &mut flags), 0);
+//! assert_eq!(flags, [1, 1, 1, 7]);
+//! ```
+//!
+//! The same with the table for the flags is no program:
+//!
+//! ```compile_fail,E0502
+//! # use filughjosa::raw::{PruneInput, prune_into};
+//! let mut table = [1, 0, 0, 0, 0, 0, 0, 0];
+//! let input = PruneInput {
+//!     schema: &[], table: &table, table_pool: &[], statistics: &[], guarantees: &[],
+//!     containers: 3, grid: &[], cell_pool: &[], answers: &[],
+//! };
+//! assert_eq!(prune_into(input, &mut table), 0);
+//! ```
 
 use crate::ffi;
 

@@ -28,23 +28,36 @@ fn ten_to_twenty() -> Block {
     Block::new().rows(5).column("c", Summary::bounds(10, 20).blanks(0))
 }
 
-#[test]
-fn the_whole_example_is_answered_byte_for_byte() {
-    let (schema, predicate, pool) = (hex("01"), hex("7400000000000000 4008000000000000"), hex("0000000000000005"));
-    let table = hex("1000000000000000 5001020000000000 3400000000000000 4008000000000000");
-    let statistics = hex("0040000000000000 0080000000000000 00C0000000000000");
+/// The whole example, all of its byte strings beginning `shift` bytes into a buffer.
+fn whole(shift: usize) {
+    let shifted = |bytes: &[u8]| [&vec![0; shift][..], bytes].concat();
+    let inputs = ["01", "7400000000000000 4008000000000000", "0000000000000005"].map(|text| shifted(&hex(text)));
+    let [schema, predicate, pool] = inputs.each_ref().map(|input| &input[shift..]);
     let rooms = [raw::TABLE_ROOM, raw::TABLE_POOL_ROOM, raw::STATISTICS_ROOM, raw::GUARANTEES_ROOM];
-    let mut lent = rooms.map(|room| vec![0xEE; room]);
-    let [lent_table, lent_pool, lent_statistics, lent_guarantees] = &mut lent;
+    let mut lent = rooms.map(|room| vec![0xEE; shift + room]);
+    let [lent_table, lent_pool, lent_statistics, lent_guarantees] = lent.each_mut().map(|output| &mut output[shift..]);
     let answer = raw::rewrite_into(
-        RewriteInput { schema: &schema, predicate: &predicate, pool: &pool, list_limit: 20 },
+        RewriteInput { schema, predicate, pool, list_limit: 20 },
         RewriteOutput { table: lent_table, pool: lent_pool, statistics: lent_statistics, guarantees: lent_guarantees },
     );
     assert_eq!(answer, 0x0000_0400_0803_0000);
-    for (got, front) in lent.iter().zip([&table, &pool, &statistics, &Vec::new()]) {
+    let table = "1000000000000000 5001020000000000 3400000000000000 4008000000000000";
+    let statistics = "0040000000000000 0080000000000000 00C0000000000000";
+    for (got, front) in lent.iter().zip([table, "0000000000000005", statistics, ""].map(hex)) {
+        let (before, got) = got.split_at(shift);
         assert_eq!(got[..front.len()], front[..]);
-        assert!(got[front.len()..].iter().all(|byte| *byte == 0xEE));
+        assert!(before.iter().chain(&got[front.len()..]).all(|byte| *byte == 0xEE));
     }
+}
+
+#[test]
+fn the_whole_example_is_answered_byte_for_byte() {
+    whole(0);
+}
+
+#[test]
+fn bytes_need_no_alignment() {
+    (1..8).for_each(whole);
 }
 
 #[test]

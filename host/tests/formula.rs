@@ -126,3 +126,36 @@ fn a_mistake_is_shown_below_its_line() {
     let shown = formula::read("sold AND\n  price = 'b'", &shop()).unwrap_err().to_string();
     assert_eq!(shown, "at character 20: price is integer, this is text\n    price = 'b'\n            ^^^");
 }
+
+#[test]
+fn what_is_written_is_read_back() {
+    let columns = [("price", ColumnType::Integer), ("say \"in\"", ColumnType::Text), ("LIKE", ColumnType::Truth)];
+    let schema = Schema::new(columns).unwrap();
+    let [price, text, truth] = columns.map(|(name, _)| col(name));
+    let leaves = [
+        (-(-price.clone())).lt(i64::MIN),
+        turned(Operator::GreaterOrEqual, -3, -price.clone()),
+        turned(Operator::NotDistinctFrom, Value::Null, text.clone()),
+        price.clone().not_in([Value::Null, 0.into(), (-1).into()]),
+        price.is_in::<Value>([]),
+        text.clone().like("it's 50\\%_"),
+        text.clone().not_like(Value::Null),
+        text.clone().distinct_from(""),
+        text.is_not_null(),
+        truth.clone().eq(false),
+        truth.clone().is_null(),
+        truth.truth(),
+        Predicate::Constant(None),
+        Predicate::Constant(Some(true)),
+    ];
+    let mut all = leaves.to_vec();
+    for pair in leaves.windows(2) {
+        let [a, b] = [pair[0].clone(), pair[1].clone()];
+        all.push((a.clone() & !b.clone()) & (b.clone() | a.clone()));
+        all.push(!(!a.clone() | (b.clone() | a)) & !!b);
+    }
+    for predicate in all {
+        let text = predicate.to_string();
+        assert_eq!(formula::read(&text, &schema), Ok(predicate), "{text}");
+    }
+}

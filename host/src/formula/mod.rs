@@ -15,6 +15,7 @@
 //! and _ stands in double quotes.
 
 mod parse;
+mod show;
 mod token;
 
 use crate::predicate::Predicate;

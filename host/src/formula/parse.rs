@@ -10,7 +10,7 @@ use std::ops::Range;
 const MAX_NESTING: usize = 100;
 
 /// Words that are no columns unless in double quotes.
-const KEYWORDS: [&str; 13] =
+pub(super) const KEYWORDS: [&str; 13] =
     ["AND", "OR", "NOT", "IN", "LIKE", "BETWEEN", "IS", "NULL", "TRUE", "FALSE", "DISTINCT", "FROM", "ESCAPE"];
 
 struct Parser<'a> {
