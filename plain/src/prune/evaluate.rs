@@ -1,4 +1,4 @@
-//! The value of a table over a container's cells.
+//! The value of a table over a container's cells. A side that decides spares the other.
 
 use super::grid::Cell;
 use crate::kleene::{Truth, and, not, or};
@@ -9,8 +9,14 @@ use crate::table::{Against, Table};
 pub fn evaluate(table: &Table, cells: &[Cell]) -> Truth {
     match table {
         Table::Constant(value) => Some(*value),
-        Table::And(first, second) => and(evaluate(first, cells), evaluate(second, cells)),
-        Table::Or(first, second) => or(evaluate(first, cells), evaluate(second, cells)),
+        Table::And(first, second) => match evaluate(first, cells) {
+            Some(false) => Some(false),
+            value => and(value, evaluate(second, cells)),
+        },
+        Table::Or(first, second) => match evaluate(first, cells) {
+            Some(true) => Some(true),
+            value => or(value, evaluate(second, cells)),
+        },
         Table::Not(inner) => not(evaluate(inner, cells)),
         Table::Against(comparison) => against(comparison, cells),
         Table::SomeBlank(blanks) => Some(count(cells, *blanks)? > 0),
