@@ -125,7 +125,7 @@ module _ (a : Asked) (b : Blocks) (taken-call : faultOf a ≡ 0) where
       ap (λ l. tableAt l (written .pool) (wordsOf (written .table)) maxTableDepth 0 .table) list-back
       ∙ call-table (a .schema) (a .predicate) (a .pool) (a .limit) (a .rooms) taken-call
 
-  words-back : wordsOf (written .guarantees) ≡ guaranteeWords (guarantees 0 (askedFor a))
+  pub words-back : wordsOf (written .guarantees) ≡ guaranteeWords (guarantees 0 (askedFor a))
   unfolding written
   words-back =
       let s = call-bounded (a .schema) (a .predicate) (a .pool) (a .limit) (a .rooms) taken-call .small in

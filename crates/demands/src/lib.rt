@@ -1,1 +1,1 @@
-// What the definitions say of document 01's own cases. No function.
+// The demands as theorems, and what the definitions say of document 01's own cases. No function.

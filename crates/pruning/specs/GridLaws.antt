@@ -9,13 +9,14 @@ use native.Mathlib.Omega.{arith}
 use lib.ListN.{length, getD}
 use lib.Dec.{eqb, ltb}
 use lib.IntN.{ℤ, pos}
-use borrow.Author.Tests.{ltb-true, lt-ltb}
+use borrow.Author.Tests.{ltb-true, lt-ltb, eq-eqb}
 use Rattle.words.specs.Tests.{and-both}
 use Rattle.words.specs.Word.{wordAt}
 use Rattle.literals.specs.Signed.{Fits64, signed-fits}
 use Rattle.literals.specs.Literals.{Value, null, int, text, truth, integerType, textType, truthType, nullType, typeOf, offsetOf, suits, plain, literalOf, valueOf, valueAt}
 use Rattle.literals.specs.declared.Literal.{Literal}
 use Rattle.literals.specs.declared.Literal.the-variants.{Null, Int, Text, Truth}
+use Rattle.literals.specs.LiteralLaws.{literal-null}
 use Rattle.literals.specs.Suited.{Suited, suited}
 use Rattle.predicate.specs.declared.Column.{Column}
 use Rattle.predicate.specs.Checking.{typeIn}
@@ -106,6 +107,13 @@ count-cell pool w = go (eqb (typeOf w) nullType)
     go : (b : Bool) → CountCell (cond b null (int (pos (wordAt pool (offsetOf w)))))
     go true = inl refl
     go false = inr (wordAt pool (offsetOf w), refl)
+
+-- a cell of type 0 is absent, whatever it is of
+pub absent-cell : (pool : List ℕ) (s : Statistic) (w : ℕ) → typeOf w ≡ nullType → cellValue pool s w ≡ null
+absent-cell pool (Least c) w e = ap (valueOf pool) (literal-null pool w e)
+absent-cell pool (Greatest c) w e = ap (valueOf pool) (literal-null pool w e)
+absent-cell pool (Blanks c) w e = rw (eq-eqb (typeOf w) nullType e)
+absent-cell pool Rows w e = rw (eq-eqb (typeOf w) nullType e)
 
 pub bound-cell : (schema pool : List ℕ) (c : Column) (w : ℕ) → typeIn schema (c .0) ≡ integerType → cellFine schema pool (Least c) w ≡ true → IntCell (valueAt pool w)
 bound-cell schema pool c w t e =
