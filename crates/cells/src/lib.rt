@@ -5,7 +5,8 @@ ghost use mathlib.Core.Path.{_≡_};
 ghost use Prim.Native.Nat.{_+_, _*_, _/_, _≤_};
 ghost use lib.ListN.{length};
 ghost use Rattle.limits.specs.Limits.{maxContainers, statisticsRoom};
-ghost use Rattle.words.specs.Word.{wordsOf};
+ghost use Rattle.words.specs.Word.{wordAt, wordsOf};
+ghost use Rattle.literals.specs.Literals.{offsetOf};
 ghost use Rattle.pruning.specs.Cells.{cellType, cellFine, countAt, rowFine, rowsFine, upToTwo, answersFine};
 ghost use Rattle.cells.specs.Counts.{countValue};
 ghost use Rattle.cells.specs.Grids.{listOf, gridHolds, answersHold};
@@ -115,6 +116,17 @@ pub fn answers_fine(containers: usize, guarantees: usize, answers: &[u8]) -> boo
     up_to_two(answers)
 }
 
+// The eight bytes that a literal word names, as a number; a byte past the pool's end counts as 0.
+pub fn number_of(pool: &[u8], w: u64) -> u64
+    ensures { λ r. ⌜ r ≡ wordAt (now (pool .entry)) (offsetOf w) ⌝ }
+{
+    let at = literals::offset_of(w);
+    if at + 8 <= pool.len() {
+        return words::word_at(pool, at);
+    }
+    words::padded_word(pool, at)
+}
+
 // The count that a cell holds.
 pub fn count_at(pool: &[u8], w: u64) -> Count
     ensures { λ r. ⌜ countValue r ≡ countAt (now (pool .entry)) w ⌝ }
@@ -122,5 +134,5 @@ pub fn count_at(pool: &[u8], w: u64) -> Count
     if literals::type_of(w) == Literal::NULL {
         return Count::Absent;
     }
-    Count::Of(words::padded_word(pool, literals::offset_of(w)))
+    Count::Of(number_of(pool, w))
 }

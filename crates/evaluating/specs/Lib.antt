@@ -1,3 +1,4 @@
 pub mod Rows
 pub mod Ready
 pub mod FromChecks
+pub mod Steps
