@@ -1,5 +1,6 @@
 -- One node on a row of cells, without its children, and what it says of the table that it begins. Assumes nothing.
 use mathlib.Core.Path.{_≡_, refl, sym, ap, _∙_}
+use mathlib.Core.Bool.{Bool, true, false, false≢true}
 use mathlib.Core.List.{List}
 use Prim.Native.Nat.{ℕ, _+_, _-_, _≤_}
 use lib.ListN.{getD}
@@ -10,7 +11,7 @@ use Rattle.operators.specs.Operators.{operatorOf}
 use Rattle.operators.specs.declared.Operator.the-variants.{NotEqual, Above}
 use Rattle.kleene.specs.Truths.{truthOf, kleene, kleeneNot}
 use Rattle.kleene.specs.declared.Truth.{Truth}
-use Rattle.kleene.specs.declared.Truth.the-variants.{Unknown, True}
+use Rattle.kleene.specs.declared.Truth.the-variants.{False, Unknown, True}
 use Rattle.kleene.specs.declared.Joining.{Joining}
 use Rattle.kleene.specs.declared.Joining.the-variants.{And, Or}
 use Rattle.literals.specs.Literals.{Value, int, valueOf, valueAt}
@@ -68,6 +69,27 @@ pub record Evaluable (pool ws : List ℕ) (d at : ℕ) : Type 0 where
 abbrev pub WorthFor : List ℕ → List ℕ → List ℕ → List ℕ → ℕ → ℕ → Valued → Type 0
 WorthFor cells row pool ws d at r =
     (list : List Statistic) → Ready list pool ws d at → r ≡ valued (rowCells cells list row) (tableAt list pool ws d at)
+
+-- whether the first of two sides decides, whatever the second is
+abbrev pub settled : Joining → Truth → Bool
+settled And False = true
+settled And Unknown = false
+settled And True = false
+settled Or False = false
+settled Or Unknown = false
+settled Or True = true
+
+settled-is : (j : Joining) (a b : Truth) → settled j a ≡ true → kleene j a b ≡ a
+settled-is And False False h = refl
+settled-is And False Unknown h = refl
+settled-is And False True h = refl
+settled-is And Unknown b h = absurd (false≢true h)
+settled-is And True b h = absurd (false≢true h)
+settled-is Or False b h = absurd (false≢true h)
+settled-is Or Unknown b h = absurd (false≢true h)
+settled-is Or True False h = refl
+settled-is Or True Unknown h = refl
+settled-is Or True True h = refl
 
 -- ---- by the kind of the node's word
 
@@ -216,6 +238,9 @@ module _ (cells row pool ws : List ℕ) (d at : ℕ) (list : List Statistic) (r 
       ap (λ (s : Step). leafAt cells row pool list (r .distinct) (tableAt list pool ws (d - 1)) (TableReady list pool ws (d - 1)) (behind list pool ws (d - 1)) at s) e
       ∙ rw (here node refl) (node-leaf cells row pool list (r .distinct) (tableAt list pool ws (d - 1)) (TableReady list pool ws (d - 1)) (behind list pool ws (d - 1)) at node (there node refl) t k e)
 
+  pub leaf-end : (t : Truth) (k : ℕ) → Leaf t k ≡ stepOf cells row pool node → at + k ≡ behind list pool ws d at
+  leaf-end t k e = ap (λ (v : Valued). v .next) (leaf-worth t k e)
+
   module _ (j : Joining) (e : Both j ≡ stepOf cells row pool node) where
     both-is : Join j ≡ node
     both-is = sym (node-both cells row pool j node e)
@@ -232,6 +257,20 @@ module _ (cells row pool ws : List ℕ) (d at : ℕ) (list : List Statistic) (r 
     unfolding worth
     both-worth x y p q = rw (here (Join j) both-is, q, p)
 
+    -- the first side alone, where it decides; n is the place behind the second
+    pub both-settled : (x : Valued) (n : ℕ) → x ≡ valued (rowCells cells list row) (tableAt list pool ws (d - 1) (at + 1))
+        → settled j (x .value) ≡ true → n ≡ behind list pool ws (d - 1) (x .next)
+        → record { value = x .value; next = n } ≡ valued (rowCells cells list row) (tableAt list pool ws d at)
+    both-settled x n p s q =
+        let y : Valued = valued (rowCells cells list row) (tableAt list pool ws (d - 1) (x .next)) in
+        rw (q, ← settled-is j (x .value) (y .value) s) (both-worth x y p refl)
+
+    pub both-next : (x : ℕ) → x ≡ behind list pool ws (d - 1) (at + 1) → Ready list pool ws (d - 1) x
+    both-next x p = record { distinct = r .distinct; table = rw p (there (Join j) both-is .1) }
+
+    pub both-end : (x y : ℕ) → x ≡ behind list pool ws (d - 1) (at + 1) → y ≡ behind list pool ws (d - 1) x → y ≡ behind list pool ws d at
+    both-end x y p q = q ∙ ap (behind list pool ws (d - 1)) p ∙ sym (ap (λ (t : TableRead). t .next) (here (Join j) both-is))
+
   module _ (e : Turned ≡ stepOf cells row pool node) where
     turned-is : Negation ≡ node
     turned-is = sym (node-turned cells row pool node e)
@@ -243,3 +282,6 @@ module _ (cells row pool ws : List ℕ) (d at : ℕ) (list : List Statistic) (r 
         → record { value = kleeneNot (x .value); next = x .next } ≡ valued (rowCells cells list row) (tableAt list pool ws d at)
     unfolding worth
     turned-worth x p = rw (here Negation turned-is, p)
+
+    pub turned-end : (x : ℕ) → x ≡ behind list pool ws (d - 1) (at + 1) → x ≡ behind list pool ws d at
+    turned-end x p = p ∙ sym (ap (λ (t : TableRead). t .next) (here Negation turned-is))

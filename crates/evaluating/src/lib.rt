@@ -23,7 +23,8 @@ ghost use Rattle.cells.specs.Grids.{listOf};
 ghost use Rattle.comparing.specs.Comparing.{Asks};
 ghost use Rattle.evaluating.specs.Rows.{rowCells};
 ghost use Rattle.evaluating.specs.Ready.{Ready};
-ghost use Rattle.evaluating.specs.Steps.{boundIn, countIn, stepOf, NodeAsks, Evaluable, WorthFor};
+ghost use Rattle.evaluating.specs.Steps.{boundIn, countIn, stepOf, NodeAsks, Evaluable, WorthFor, settled};
+ghost use Rattle.evaluating.specs.Ends.{Skippable, EndFor};
 
 // What a table is worth, and the place of the word behind it.
 pub struct Valued {
@@ -113,7 +114,39 @@ fn step_at<'a>(pool: &'a [u8], table: &[u8], cells: &'a [u8], row: &[u8], at: us
     }
 }
 
-// What the table at a place is worth on a row of cells, with a depth left.
+// Whether the first of two sides decides, whatever the second is.
+fn settles(way: Joining, a: Truth) -> bool
+    ensures { λ r. ⌜ r ≡ settled way a ⌝ }
+{
+    match way {
+        Joining::And => match a {
+            Truth::False => true,
+            Truth::Unknown => false,
+            Truth::True => false,
+        },
+        Joining::Or => match a {
+            Truth::False => false,
+            Truth::Unknown => false,
+            Truth::True => true,
+        },
+    }
+}
+
+// The place behind the table at a place, with a depth left.
+fn end_of(table: &[u8], depth: usize, at: usize) -> usize
+    requires { ⌜ Skippable (wordsOf (now table)) depth at ⌝ }
+    ensures { λ r. ⌜ EndFor (wordsOf (now (table .entry))) depth at r ⌝ }
+{
+    match pruning::kind_of(node_word(table, at)) {
+        1 => end_of(table, depth - 1, end_of(table, depth - 1, at + 1)),
+        2 => end_of(table, depth - 1, end_of(table, depth - 1, at + 1)),
+        3 => at + 2,
+        7 => end_of(table, depth - 1, at + 1),
+        _ => at + 1,
+    }
+}
+
+// What the table at a place is worth on a row of cells, with a depth left; a side that decides nothing more is passed over.
 pub fn worth_at<'a>(
     pool: &'a [u8],
     table: &[u8],
@@ -134,6 +167,12 @@ pub fn worth_at<'a>(
             let l = worth_at(pool, table, cells, row, depth - 1, at + 1);
             let a = l.value;
             let m = l.next;
+            if settles(way, a) {
+                return Valued {
+                    value: a,
+                    next: end_of(table, depth - 1, m),
+                };
+            }
             let r = worth_at(pool, table, cells, row, depth - 1, m);
             let b = r.value;
             let next = r.next;

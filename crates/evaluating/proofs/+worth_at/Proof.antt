@@ -10,13 +10,15 @@ use Rattle.words.specs.WordLaws.{length-words}
 use Rattle.pruning.specs.TableReading.{tableNodeAt}
 use Rattle.evaluating.specs.declared.Step.{Step}
 use Rattle.evaluating.specs.Ready.{ready-deep, ready-inside}
-use Rattle.evaluating.specs.Steps.{stepOf, Evaluable, leaf-short, ready-asks, leaf-worth, both-left, both-right, both-worth, turned-child, turned-worth}
+use Rattle.evaluating.specs.Steps.{stepOf, Evaluable, leaf-short, ready-asks, leaf-worth, both-left, both-right, both-worth, both-settled, turned-child, turned-worth}
 use borrow.Fn.Kinds.{In}
 use borrow.Fn.PlainCycle.{Measures, is, falls, and}
 use Rattle.evaluating.proofs.worth_at.Reads as worth-at
 use Rattle.evaluating.proofs.worth_at.Kinds as worth-at-kinds
 use Rattle.evaluating.proofs.+worth_at.Lts-worth_at as worth-at-lts
 use Rattle.evaluating.proofs.step_at.Reads as step-at-reads
+use Rattle.evaluating.proofs.settles.Reads as settles-reads
+use Rattle.evaluating.proofs.end_of.Reads as end-of-reads
 use Rattle.kleene.proofs.Truth.not.Reads as not-reads
 use Rattle.kleene.proofs.join.Reads as join-reads
 use Rattle.evaluating.proofs.+worth_at.{statement}
@@ -32,7 +34,7 @@ abbrev worth-at-below : ℕ → In 3 worth-at-kinds.ps
 worth-at-below t = and 3 worth-at-kinds.ps (falls 3 worth-at-kinds.ps _<_ μ-worth-at t) worth-at.Pre
 
 abbrev worth-at-cs : ℕ → worth-at-lts.Claims
-worth-at-cs t = (step-at-reads.Asked, step-at-reads.Learnt, worth-at-below t, worth-at.Post, join-reads.Asked, join-reads.Learnt, not-reads.Asked, not-reads.Learnt)
+worth-at-cs t = (step-at-reads.Asked, step-at-reads.Learnt, worth-at-below t, worth-at.Post, settles-reads.Asked, settles-reads.Learnt, end-of-reads.Asked, end-of-reads.Learnt, join-reads.Asked, join-reads.Learnt, not-reads.Asked, not-reads.Learnt)
 
 abbrev First : ℕ → Type 0
 First t = worth-at-lts.Start (worth-at-cs t) (worth-at-at t) worth-at.Post
@@ -93,19 +95,32 @@ worth-at-requires t c κs =
     let h = deep t f in
     (search needs, record { list = f .pre .1 .list; ready = both-left (cells t f) (row t f) (pool t f) (ws t f) (f .args .depth) (f .args .at) (f .pre .1 .list) (f .pre .1 .ready) _ e })
 
+sub-end-of : (t : ℕ) → worth-at-lts.Need-sub-end-of (worth-at-cs t) (worth-at-at t) worth-at.Post
+sub-end-of t c =
+    let h = deep t (c .before .before .before .before .before .before .before .before .before .before .before) in search needs
+
+end-of-requires : (t : ℕ) → worth-at-lts.Need-end-of-requires (worth-at-cs t) (worth-at-at t) worth-at.Post
+end-of-requires t c κs =
+    let f = c .before .before .before .before .before .before .before .before .before .before .before in
+    let e = step-is t (c .before .before .before .before .before .before) (c .before .before .before .before .way .given .1) in
+    let l = f .pre .1 .list in
+    let r = f .pre .1 .ready in
+    let left = both-left (cells t f) (row t f) (pool t f) (ws t f) (f .args .depth) (f .args .at) l r _ e in
+    record { list = l; pool = pool t f; ready = both-right (cells t f) (row t f) (pool t f) (ws t f) (f .args .depth) (f .args .at) l r _ e (c .before .before .worth-at .result) (c .before .before .worth-at .ensures l left) }
+
 sub-worth-at-2 : (t : ℕ) → worth-at-lts.Need-sub-worth-at-2 (worth-at-cs t) (worth-at-at t) worth-at.Post
 sub-worth-at-2 t c =
-    let h = deep t (c .before .before .before .before .before .before .before .before .before) in search needs
+    let h = deep t (c .before .before .before .before .before .before .before .before .before .before .before) in search needs
 
 worth-at-requires-2 : (t : ℕ) → worth-at-lts.Need-worth-at-requires-2 (worth-at-cs t) (worth-at-at t) worth-at.Post
 worth-at-requires-2 t c κs =
-    let f = c .before .before .before .before .before .before .before .before .before in
-    let e = step-is t (c .before .before .before .before) (c .before .before .way .given .1) in
+    let f = c .before .before .before .before .before .before .before .before .before .before .before in
+    let e = step-is t (c .before .before .before .before .before .before) (c .before .before .before .before .way .given .1) in
     let h = deep t f in
     let l = f .pre .1 .list in
     let r = f .pre .1 .ready in
     let left = both-left (cells t f) (row t f) (pool t f) (ws t f) (f .args .depth) (f .args .at) l r _ e in
-    (search needs, record { list = l; ready = both-right (cells t f) (row t f) (pool t f) (ws t f) (f .args .depth) (f .args .at) l r _ e (c .worth-at .result) (c .worth-at .ensures l left) })
+    (search needs, record { list = l; ready = both-right (cells t f) (row t f) (pool t f) (ws t f) (f .args .depth) (f .args .at) l r _ e (c .before .before .worth-at .result) (c .before .before .worth-at .ensures l left) })
 
 sub-worth-at-3 : (t : ℕ) → worth-at-lts.Need-sub-worth-at-3 (worth-at-cs t) (worth-at-at t) worth-at.Post
 sub-worth-at-3 t c =
@@ -124,21 +139,29 @@ worth-at-requires-3 t c κs =
 
 returns : (t : ℕ) → worth-at-lts.Need-returns (worth-at-cs t) (worth-at-at t) worth-at.Post
 returns t c =
-    let f = c .before .before .before .before .before .before .before .before in
-    λ l r. leaf-worth (cells t f) (row t f) (pool t f) (ws t f) (f .args .depth) (f .args .at) l r _ _ (step-is t (c .before .before .before) (c .before .value .given .1))
+    let f = c .before .before .before .before .before .before .before .before .before .before .before .before in
+    let e = step-is t (c .before .before .before .before .before .before .before) (c .before .before .before .before .before .way .given .1) in
+    λ l r.
+    let x = c .before .before .before .worth-at .ensures l (both-left (cells t f) (row t f) (pool t f) (ws t f) (f .args .depth) (f .args .at) l r _ e) in
+    both-settled (cells t f) (row t f) (pool t f) (ws t f) (f .args .depth) (f .args .at) l r _ e (c .before .before .before .worth-at .result) (c .end-of .result) x (sym (c .before .before .settles .ensures) ∙ c .before .if1 .taken) (c .end-of .ensures l (pool t f) (both-right (cells t f) (row t f) (pool t f) (ws t f) (f .args .depth) (f .args .at) l r _ e (c .before .before .before .worth-at .result) x))
 
 returns-2 : (t : ℕ) → worth-at-lts.Need-returns-2 (worth-at-cs t) (worth-at-at t) worth-at.Post
 returns-2 t c =
-    let f = c .before .before .before .before .before .before .before .before .before .before .before in
-    let e = step-is t (c .before .before .before .before .before .before) (c .before .before .before .before .way .given .1) in
-    λ l r.
-    let left = both-left (cells t f) (row t f) (pool t f) (ws t f) (f .args .depth) (f .args .at) l r _ e in
-    let x = c .before .before .worth-at .ensures l left in
-    let y = c .before .worth-at2 .ensures l (both-right (cells t f) (row t f) (pool t f) (ws t f) (f .args .depth) (f .args .at) l r _ e (c .before .before .worth-at .result) x) in
-    rw (c .join .ensures) (both-worth (cells t f) (row t f) (pool t f) (ws t f) (f .args .depth) (f .args .at) l r _ e (c .before .before .worth-at .result) (c .before .worth-at2 .result) x y)
+    let f = c .before .before .before .before .before .before .before .before in
+    λ l r. leaf-worth (cells t f) (row t f) (pool t f) (ws t f) (f .args .depth) (f .args .at) l r _ _ (step-is t (c .before .before .before) (c .before .value .given .1))
 
 returns-3 : (t : ℕ) → worth-at-lts.Need-returns-3 (worth-at-cs t) (worth-at-at t) worth-at.Post
 returns-3 t c =
+    let f = c .before .before .before .before .before .before .before .before .before .before .before .before .before in
+    let e = step-is t (c .before .before .before .before .before .before .before .before) (c .before .before .before .before .before .before .way .given .1) in
+    let first = c .before .before .before .before .worth-at in
+    λ l r.
+    let x = first .ensures l (both-left (cells t f) (row t f) (pool t f) (ws t f) (f .args .depth) (f .args .at) l r _ e) in
+    let y = c .before .worth-at2 .ensures l (both-right (cells t f) (row t f) (pool t f) (ws t f) (f .args .depth) (f .args .at) l r _ e (first .result) x) in
+    rw (c .join .ensures) (both-worth (cells t f) (row t f) (pool t f) (ws t f) (f .args .depth) (f .args .at) l r _ e (first .result) (c .before .worth-at2 .result) x y)
+
+returns-4 : (t : ℕ) → worth-at-lts.Need-returns-4 (worth-at-cs t) (worth-at-at t) worth-at.Post
+returns-4 t c =
     let f = c .before .before .before .before .before .before .before .before .before in
     let e = step-is t (c .before .before .before .before) (c .before .before .enum-told .given .1) in
     λ l r.
@@ -158,6 +181,10 @@ pub +worth-at-spec : {M : Type 1} → statement M
     (sub-worth-at t)
     (add-worth-at t)
     (worth-at-requires t)
+    (λ c κs. search needs)
+    (sub-end-of t)
+    (end-of-requires t)
+    (returns t)
     (sub-worth-at-2 t)
     (worth-at-requires-2 t)
     (λ c κs. search needs)
@@ -166,6 +193,6 @@ pub +worth-at-spec : {M : Type 1} → statement M
     (add-worth-at-2 t)
     (worth-at-requires-3 t)
     (λ c κs. search needs)
-    (returns t)
     (returns-2 t)
     (returns-3 t)
+    (returns-4 t)
