@@ -5,10 +5,12 @@ ghost use mathlib.Core.Path.{_≡_};
 ghost use Prim.Native.Nat.{_+_, _*_, _/_, _≤_};
 ghost use lib.ListN.{length};
 ghost use Rattle.limits.specs.Limits.{maxContainers, statisticsRoom};
-ghost use Rattle.words.specs.Word.{wordsOf};
-ghost use Rattle.pruning.specs.Cells.{cellType, cellFine, countAt, rowFine, rowsFine, upToTwo, answersFine};
+ghost use Rattle.words.specs.Word.{wordAt, wordsOf};
+ghost use Rattle.literals.specs.Literals.{offsetOf, integerType};
+ghost use Rattle.pruning.specs.Cells.{cellType, countAt, rowsFine, upToTwo, answersFine};
 ghost use Rattle.cells.specs.Counts.{countValue};
 ghost use Rattle.cells.specs.Grids.{listOf, gridHolds, answersHold};
+ghost use Rattle.cells.specs.Columns.{columnFine, ColumnRoom};
 
 // A count of blanks or rows, read unsigned.
 pub enum Count {
@@ -28,42 +30,71 @@ fn cell_type(schema: &[u8], s: Statistic) -> u8
     }
 }
 
-// A statistic's cell: absent, or of its type, inside the cell pool.
-pub fn cell_fine(schema: &[u8], pool: &[u8], s: Statistic, w: u64) -> bool
-    ensures { λ r. ⌜ r ≡ cellFine (now (schema .entry)) (now (pool .entry)) s w ⌝ }
+// A column of integers, from its place in the first row on: every cell is absent, or an integer inside the cell pool.
+fn integers_fine(pool: &[u8], grid: &[u8], at: usize, wide: usize, containers: usize) -> bool
+    requires { ⌜ ColumnRoom (now grid) at wide containers ⌝ }
+    ensures { λ r. ⌜ r ≡ columnFine (now (pool .entry)) integerType (wordsOf (now (grid .entry))) wide containers at ⌝ }
 {
-    suiting::word_suits(pool, cell_type(schema, s), w)
-}
-
-// Every cell of the row that begins at a place of the grid.
-fn row_fine(schema: &[u8], pool: &[u8], list: &[u8], grid: &[u8], at: usize) -> bool
-    requires { ⌜ at + length (now list) / 8 ≤ length (now grid) / 8 ⌝ }
-    ensures { λ r. ⌜ r ≡ rowFine (now (schema .entry)) (now (pool .entry)) (listOf (now (list .entry))) (wordsOf (now (grid .entry))) (listOf (now (list .entry))) at ⌝ }
-{
-    let mut i = 0;
-    while i < list.len() / 8 {
-        let s = statistics::statistic_of(words::word_at(list, 8 * i));
-        if !cell_fine(schema, pool, s, words::word_at(grid, 8 * (at + i))) {
+    let mut left = containers;
+    let mut i = at;
+    while 0 < left {
+        if !suiting::integer_suits(pool, words::word_at(grid, 8 * i)) {
             return false;
         }
-        i += 1;
+        i += wide;
+        left -= 1;
     }
     true
 }
 
-// Every row of a grid that holds a row for each container.
-fn rows_fine(schema: &[u8], pool: &[u8], list: &[u8], grid: &[u8], containers: usize) -> bool
-    requires { ⌜ containers * (length (now list) / 8) ≤ length (now grid) / 8 ⌝ }
-    ensures { λ r. ⌜ r ≡ rowsFine (now (schema .entry)) (now (pool .entry)) (listOf (now (list .entry))) (wordsOf (now (grid .entry))) containers 0 ⌝ }
+// A column of any type.
+fn cells_fine(pool: &[u8], kind: u8, grid: &[u8], at: usize, wide: usize, containers: usize) -> bool
+    requires { ⌜ ColumnRoom (now grid) at wide containers ⌝ }
+    ensures { λ r. ⌜ r ≡ columnFine (now (pool .entry)) kind (wordsOf (now (grid .entry))) wide containers at ⌝ }
 {
     let mut left = containers;
-    let mut at = 0;
+    let mut i = at;
     while 0 < left {
-        if !row_fine(schema, pool, list, grid, at) {
+        if !suiting::word_suits(pool, kind, words::word_at(grid, 8 * i)) {
             return false;
         }
-        at += list.len() / 8;
+        i += wide;
         left -= 1;
+    }
+    true
+}
+
+// A column of a type, which is tested once for all its cells.
+fn column_fine(
+    pool: &[u8],
+    kind: u8,
+    grid: &[u8],
+    at: usize,
+    wide: usize,
+    containers: usize,
+) -> bool
+    requires { ⌜ ColumnRoom (now grid) at wide containers ⌝ }
+    ensures { λ r. ⌜ r ≡ columnFine (now (pool .entry)) kind (wordsOf (now (grid .entry))) wide containers at ⌝ }
+{
+    if kind == Literal::INTEGER {
+        return integers_fine(pool, grid, at, wide, containers);
+    }
+    cells_fine(pool, kind, grid, at, wide, containers)
+}
+
+// Every column of a grid that holds a row for each container.
+fn columns_fine(schema: &[u8], pool: &[u8], list: &[u8], grid: &[u8], containers: usize) -> bool
+    requires { ⌜ (length (now list) ≤ statisticsRoom) × (containers * (length (now list) / 8) ≤ length (now grid) / 8) ⌝ }
+    ensures { λ r. ⌜ r ≡ rowsFine (now (schema .entry)) (now (pool .entry)) (listOf (now (list .entry))) (wordsOf (now (grid .entry))) containers 0 ⌝ }
+{
+    let wide = list.len() / 8;
+    let mut p = 0;
+    while p < wide {
+        let s = statistics::statistic_of(words::word_at(list, 8 * p));
+        if !column_fine(pool, cell_type(schema, s), grid, p, wide, containers) {
+            return false;
+        }
+        p += 1;
     }
     true
 }
@@ -76,7 +107,7 @@ pub fn grid_fine(schema: &[u8], pool: &[u8], list: &[u8], containers: usize, gri
     if grid.len() != 8 * (containers * (list.len() / 8)) {
         return false;
     }
-    rows_fine(schema, pool, list, grid, containers)
+    columns_fine(schema, pool, list, grid, containers)
 }
 
 // Every byte is at most 2.
@@ -115,6 +146,17 @@ pub fn answers_fine(containers: usize, guarantees: usize, answers: &[u8]) -> boo
     up_to_two(answers)
 }
 
+// The eight bytes that a literal word names, as a number; a byte past the pool's end counts as 0.
+pub fn number_of(pool: &[u8], w: u64) -> u64
+    ensures { λ r. ⌜ r ≡ wordAt (now (pool .entry)) (offsetOf w) ⌝ }
+{
+    let at = literals::offset_of(w);
+    if at + 8 <= pool.len() {
+        return words::word_at(pool, at);
+    }
+    words::padded_word(pool, at)
+}
+
 // The count that a cell holds.
 pub fn count_at(pool: &[u8], w: u64) -> Count
     ensures { λ r. ⌜ countValue r ≡ countAt (now (pool .entry)) w ⌝ }
@@ -122,5 +164,5 @@ pub fn count_at(pool: &[u8], w: u64) -> Count
     if literals::type_of(w) == Literal::NULL {
         return Count::Absent;
     }
-    Count::Of(words::padded_word(pool, literals::offset_of(w)))
+    Count::Of(number_of(pool, w))
 }

@@ -3,7 +3,7 @@ use mathlib.Core.Path.{_≡_, refl, sym, ap, _∙_}
 use mathlib.Core.Bool.{Bool, true, false, cond, not, _&&_}
 use mathlib.Core.Option.{Option, some, none}
 use mathlib.Core.List.{List, []}
-use Prim.Native.Nat.{ℕ, _+_, _-_, _≤_, _<_}
+use Prim.Native.Nat.{ℕ, _+_, _-_, _/_, _^_, _≤_, _<_}
 use native.Mathlib.Nat.{zero-add}
 use native.Mathlib.Omega.{arith}
 use lib.ListN.{length, take, drop, length-drop, drop-of-length-le}
@@ -11,7 +11,7 @@ use lib.Seq.{take-all, take-nil}
 use lib.Dec.{eqb, leb, ltb}
 use lib.IntN.{ℤ, pos}
 use borrow.Author.Tests.{leb-true, leb-false, eq-eqb, ne-eqb}
-use Rattle.words.specs.Word.{rangeOf}
+use Rattle.words.specs.Word.{wordAt, rangeOf}
 use Rattle.words.specs.Pools.{Inside}
 use Rattle.words.specs.Bytes.{byteOrder, below}
 use Rattle.words.specs.declared.Range.{Range}
@@ -22,8 +22,9 @@ use Rattle.operators.specs.declared.Operator.{Operator}
 use Rattle.operators.specs.declared.Operator.the-variants.{Equal, NotEqual, Below, AtMost, Above, AtLeast, Distinct, NotDistinct}
 use Rattle.kleene.specs.declared.Truth.{Truth}
 use Rattle.kleene.specs.Truths.{truthOf}
-use Rattle.literals.specs.Signed.{intOrder}
-use Rattle.literals.specs.Literals.{Value, int}
+use Rattle.literals.specs.Signed.{signed, intOrder}
+use Rattle.literals.specs.Literals.{Value, int, typeOf, offsetOf, valueOf, valueAt}
+use Rattle.literals.specs.LiteralLaws.{literal-int}
 use Rattle.orders.specs.Order.{orderBy, compares-test}
 use Rattle.orders.specs.Instances.{numbers, texts, truths, ltZ-numbers, below-texts}
 use Rattle.orders.specs.Values.{orderOf, byOrder, compared, comparedFrom}
@@ -89,6 +90,22 @@ asks-order NotDistinct v w h = absurd h
 -- the literal k on the left
 pub asks-first : (o : Operator) (v k : Value) → Asks o → comparedFrom true o v k ≡ byOrder (swapOf o) (orderOf v k)
 asks-first o v k h = asks-order o k v h ∙ sym (order-of-turned k v o)
+
+-- ---- integers
+
+-- the top 40 bits of an integer's word: type 1, length 8, zero field 0
+abbrev pub integerTop : ℕ
+integerTop = 275012124672
+
+-- such a word names an integer
+pub integer-value : (pool : List ℕ) (w : ℕ) → w / 2 ^ 24 ≡ integerTop → valueAt pool w ≡ int (signed (wordAt pool (offsetOf w)))
+integer-value pool w e = let t : typeOf w ≡ 1 = omega arith in ap (valueOf pool) (literal-int pool w t)
+
+pub ints-after : (o : Operator) (a b : ℤ) (r : Order) → Asks o → r ≡ intOrder a b → byOrder o (some r) ≡ comparedFrom false o (int a) (int b)
+ints-after o a b r h e = ap (λ (x : Order). byOrder o (some x)) (e ∙ int-order a b) ∙ sym (asks-order o (int a) (int b) h)
+
+pub ints-first : (o : Operator) (a b : ℤ) (r : Order) → Asks o → r ≡ intOrder b a → byOrder o (some r) ≡ comparedFrom true o (int a) (int b)
+ints-first o a b r h e = ap (λ (x : Order). byOrder o (some x)) (e ∙ int-order b a) ∙ sym (asks-order o (int b) (int a) h)
 
 -- ---- counts
 

@@ -7,17 +7,20 @@ use words::Operand;
 use words::Order;
 use words::Range;
 ghost use mathlib.Core.Path.{_≡_};
+ghost use Prim.Native.Nat.{_/_, _^_};
+ghost use lib.Dec.{eqb};
 ghost use lib.IntN.{pos};
-ghost use Rattle.words.specs.Word.{rangeOf};
+ghost use Rattle.words.specs.Word.{wordAt, rangeOf};
 ghost use Rattle.words.specs.Bytes.{byteOrder};
 ghost use Rattle.operators.specs.declared.Operator.the-variants.{NotEqual, Above};
 ghost use Rattle.kleene.specs.Truths.{truthOf};
-ghost use Rattle.literals.specs.Literals.{valueOf, int};
+ghost use Rattle.literals.specs.Signed.{signed};
+ghost use Rattle.literals.specs.Literals.{offsetOf, valueOf, valueAt, int};
 ghost use Rattle.orders.specs.Order.{orderBy};
 ghost use Rattle.orders.specs.Instances.{truths};
 ghost use Rattle.orders.specs.Values.{orderOf, byOrder, compared, comparedFrom, truthIn};
 ghost use Rattle.cells.specs.Counts.{countValue};
-ghost use Rattle.comparing.specs.Comparing.{Clipped, orderIn, Asks};
+ghost use Rattle.comparing.specs.Comparing.{Clipped, orderIn, Asks, integerTop};
 
 // How two values compare; apart where one is absent or null, or of another type.
 pub enum Compared {
@@ -134,6 +137,64 @@ pub fn against<'a>(
     } else {
         by_order(o, c)
     }
+}
+
+// Two integers, the second written on the left where it is first.
+fn ints_against(o: Operator, a: i64, first: bool, b: i64) -> Truth
+    requires { ⌜ Asks o ⌝ }
+    ensures { λ r. ⌜ r ≡ comparedFrom first o (int a) (int b) ⌝ }
+{
+    if first {
+        by_order(o, Compared::By(literals::compare_ints(b, a)))
+    } else {
+        by_order(o, Compared::By(literals::compare_ints(a, b)))
+    }
+}
+
+// Whether a word is an integer's: its type, length and zero field are tested at once.
+fn is_integer(w: u64) -> bool
+    ensures { λ r. ⌜ r ≡ eqb (w / 2 ^ 24) integerTop ⌝ }
+{
+    w / 16777216 == 275012124672
+}
+
+// The integer that a literal word names.
+fn integer_in(pool: &[u8], w: u64) -> i64
+    ensures { λ r. ⌜ r ≡ signed (wordAt (now (pool .entry)) (offsetOf w)) ⌝ }
+{
+    literals::of_word(cells::number_of(pool, w))
+}
+
+// The same of the words of a cell and of a literal; of two integers nothing else is read.
+pub fn against_words<'a>(
+    literals: &'a [u8],
+    cells: &'a [u8],
+    o: Operator,
+    cell: u64,
+    first: bool,
+    literal: u64,
+) -> Truth
+    requires { ⌜ Asks o ⌝ }
+    ensures { λ r. ⌜ r ≡ comparedFrom first o (valueAt (now (cells .entry)) cell) (valueAt (now (literals .entry)) literal) ⌝ }
+{
+    if is_integer(cell) {
+        if is_integer(literal) {
+            return ints_against(
+                o,
+                integer_in(cells, cell),
+                first,
+                integer_in(literals, literal),
+            );
+        }
+    }
+    against(
+        literals,
+        cells,
+        o,
+        literals::literal_of(cells, cell),
+        first,
+        literals::literal_of(literals, literal),
+    )
 }
 
 // A count above 0.

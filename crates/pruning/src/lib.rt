@@ -34,42 +34,42 @@ pub enum Reached {
 }
 
 // A table word's kind.
-fn kind_of(w: u64) -> u8
+pub fn kind_of(w: u64) -> u8
     ensures { λ r. ⌜ r ≡ kindOf w ⌝ }
 {
     (w / 1152921504606846976 % 16) as u8
 }
 
 // A table word's operator.
-fn operator_of(w: u64) -> u8
+pub fn operator_of(w: u64) -> u8
     ensures { λ r. ⌜ r ≡ operatorField w ⌝ }
 {
     (w / 72057594037927936 % 16) as u8
 }
 
 // A table word's first statistic.
-fn first_of(w: u64) -> u8
+pub fn first_of(w: u64) -> u8
     ensures { λ r. ⌜ r ≡ firstField w ⌝ }
 {
     (w / 281474976710656 % 256) as u8
 }
 
 // A table word's second statistic.
-fn second_of(w: u64) -> u8
+pub fn second_of(w: u64) -> u8
     ensures { λ r. ⌜ r ≡ secondField w ⌝ }
 {
     (w / 1099511627776 % 256) as u8
 }
 
 // A table word's literal-first field.
-fn literal_first_of(w: u64) -> u8
+pub fn literal_first_of(w: u64) -> u8
     ensures { λ r. ⌜ r ≡ literalFirstField w ⌝ }
 {
     (w / 549755813888 % 2) as u8
 }
 
 // The operator of a code; an unknown code reads as =.
-fn operator_or_equal(n: u8) -> Operator
+pub fn operator_or_equal(n: u8) -> Operator
     ensures { λ r. ⌜ r ≡ orEqual (operatorOf n) ⌝ }
 {
     match Operator::of_code(n) {

@@ -14,7 +14,7 @@ pub fn type_in(schema: &[u8], c: u8) -> u8
 }
 
 // Null, or an integer's word inside the pool: its type, length and zero field are tested at once.
-fn integer_suits(pool: &[u8], w: u64) -> bool
+pub fn integer_suits(pool: &[u8], w: u64) -> bool
     ensures { λ r. ⌜ r ≡ fitting (now (pool .entry)) integerType w ⌝ }
 {
     if w == 0 {

@@ -1,4 +1,4 @@
--- An absent cell, or the word at its offset. Assumes nothing.
+-- An absent cell, or the number that its word names. Assumes nothing.
 use borrow.Author.Needs.{needs}
 use borrow.Author.Tests.{eq-eqb, ne-eqb}
 use Rattle.cells.proofs.count_at.Statement.{statement}
@@ -10,7 +10,7 @@ returns c =
 
 returns-2 : tie.Need-returns-2
 returns-2 c =
-    rw (← c .before .before .before .type-of .ensures, ne-eqb _ _ (c .before .before .if1 .left), ← c .before .offset-of .ensures, ← c .padded-word .ensures)
+    rw (← c .before .before .type-of .ensures, ne-eqb _ _ (c .before .if1 .left), ← c .number-of .ensures)
 
 pub count-at-spec : {M : Type 1} → statement M
 count-at-spec =
@@ -18,6 +18,5 @@ count-at-spec =
     (tie.spec
     (λ c κs. search needs)
     returns
-    (λ c κs. search needs)
     (λ c κs. search needs)
     returns-2)

@@ -1,4 +1,4 @@
--- As many cells as containers times statistics, then the rows. Assumes nothing.
+-- As many cells as containers times statistics, then the columns. Assumes nothing.
 use borrow.Author.Needs.{needs}
 use native.Mathlib.Omega.{arith}
 use mathlib.Core.Path.{sym, _∙_}
@@ -21,14 +21,14 @@ returns c =
     let a = c .before .before .before .before .before .args in
     sym (grid-unfit (a .schema .now) (a .pool .now) (a .list .now) (a .grid .now) (a .containers) (c .if1 .taken))
 
-rows-fine-requires : tie.Need-rows-fine-requires
-rows-fine-requires c κs =
-    omega (arith, c .if1 .left)
+columns-fine-requires : tie.Need-columns-fine-requires
+columns-fine-requires c κs =
+    (c .before .before .before .before .before .pre .1, omega (arith, c .if1 .left))
 
 returns-2 : tie.Need-returns-2
 returns-2 c =
     let a = c .before .before .before .before .before .before .args in
-    c .rows-fine .ensures ∙ sym (grid-fits (a .schema .now) (a .pool .now) (a .list .now) (a .grid .now) (a .containers) (c .before .if1 .left))
+    c .columns-fine .ensures ∙ sym (grid-fits (a .schema .now) (a .pool .now) (a .list .now) (a .grid .now) (a .containers) (c .before .if1 .left))
 
 pub grid-fine-spec : {M : Type 1} → statement M
 grid-fine-spec =
@@ -37,5 +37,5 @@ grid-fine-spec =
     mul-if1
     mul-if1-2
     returns
-    rows-fine-requires
+    columns-fine-requires
     returns-2)
