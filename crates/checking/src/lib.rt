@@ -12,7 +12,7 @@ ghost use lib.ListN.{length};
 ghost use lib.Dec.{ltb};
 ghost use Rattle.words.specs.Word.{wordsOf};
 ghost use Rattle.literals.specs.Literals.{suits};
-ghost use Rattle.predicate.specs.Checking.{typesFine, schemaFine, bare as bareShape, columnar as columnarShape, shapeOf, unusedZero, formed, limited, firstFault, typeIn, flippable, columned, literalLimited, patterned, literalFault, checkLiteral, checkLiterals, checkFrom, predicateFault};
+ghost use Rattle.predicate.specs.Checking.{typesFine, schemaFine, bare as bareShape, columnar as columnarShape, shapeOf, unusedZero, formed, limited, firstFault, flippable, columned, literalLimited, patterned, literalFault, checkLiteral, checkLiterals, checkFrom, predicateFault};
 ghost use Rattle.predicate.specs.Calls.{roomy, rewriteFault};
 ghost use Rattle.checking.specs.Judging.{judgeOf};
 

@@ -1,53 +1,29 @@
 -- Comparisons of values by the orders of their types, and operators that are asked of an order. Assumes nothing.
 use mathlib.Core.Path.{_≡_, refl, sym, ap, _∙_}
-use mathlib.Core.Bool.{Bool, true, false, cond, not, _&&_}
+use mathlib.Core.Bool.{Bool, true, false, not, _&&_}
 use mathlib.Core.Option.{Option, some, none}
-use mathlib.Core.List.{List, []}
-use Prim.Native.Nat.{ℕ, _+_, _-_, _/_, _^_, _≤_, _<_}
-use native.Mathlib.Nat.{zero-add}
+use mathlib.Core.List.{List}
+use Prim.Native.Nat.{ℕ, _-_, _/_, _^_}
 use native.Mathlib.Omega.{arith}
-use lib.ListN.{length, take, drop, length-drop, drop-of-length-le}
-use lib.Seq.{take-all, take-nil}
 use lib.Dec.{eqb, leb, ltb}
 use lib.IntN.{ℤ, pos}
 use borrow.Author.Tests.{leb-true, leb-false, eq-eqb, ne-eqb}
-use Rattle.words.specs.Word.{wordAt, rangeOf}
-use Rattle.words.specs.Pools.{Inside}
-use Rattle.words.specs.Bytes.{byteOrder, below}
-use Rattle.words.specs.declared.Range.{Range}
+use Rattle.words.specs.Word.{wordAt}
+use Rattle.words.specs.Bytes.{byteOrder}
 use Rattle.words.specs.declared.Order.{Order}
-use Rattle.words.specs.declared.Order.the-variants.{Less, Equal as Same, Greater}
 use Rattle.operators.specs.Operators.{swapOf}
 use Rattle.operators.specs.declared.Operator.{Operator}
 use Rattle.operators.specs.declared.Operator.the-variants.{Equal, NotEqual, Below, AtMost, Above, AtLeast, Distinct, NotDistinct}
-use Rattle.kleene.specs.declared.Truth.{Truth}
 use Rattle.kleene.specs.Truths.{truthOf}
 use Rattle.literals.specs.Signed.{signed, intOrder}
 use Rattle.literals.specs.Literals.{Value, int, typeOf, offsetOf, valueOf, valueAt}
 use Rattle.literals.specs.LiteralLaws.{literal-int}
 use Rattle.orders.specs.Order.{orderBy, compares-test}
-use Rattle.orders.specs.Instances.{numbers, texts, truths, ltZ-numbers, below-texts}
+use Rattle.orders.specs.Instances.{numbers, texts, ltZ-numbers, below-texts}
 use Rattle.orders.specs.Values.{orderOf, byOrder, compared, comparedFrom}
 use Rattle.orders.specs.ValueLaws.{order-of-turned}
 use Rattle.comparing.specs.declared.Compared.{Compared}
 use Rattle.comparing.specs.declared.Compared.the-variants.{Apart, By}
-
--- ---- ranges
-
--- a range inside a pool that names the same bytes
-pub record Clipped (pool : List ℕ) (r c : Range) : Type 0 where
-  pub inside : Inside pool c
-  pub same : rangeOf pool c ≡ rangeOf pool r
-
--- past the pool's end, and over it
-pub clipped-past : (pool : List ℕ) (at len : ℕ) → length pool ≤ at → Clipped pool (record { at = at; len = len }) (record { at = 0; len = 0 })
-clipped-past pool at len h = record { inside = omega arith; same = sym (ap (take len) (drop-of-length-le pool h) ∙ take-nil len) }
-
-pub clipped-over : (pool : List ℕ) (at len : ℕ) → at < length pool → length pool - at < len
-    → Clipped pool (record { at = at; len = len }) (record { at = at; len = length pool - at })
-clipped-over pool at len h k =
-    let e : length (drop at pool) ≡ length pool - at = length-drop at pool in
-    record { inside = omega arith; same = take-all (length pool - at) (drop at pool) (omega arith) ∙ sym (take-all len (drop at pool) (omega arith)) }
 
 -- ---- orders
 

@@ -20,7 +20,7 @@ ghost use Rattle.orders.specs.Order.{orderBy};
 ghost use Rattle.orders.specs.Instances.{truths};
 ghost use Rattle.orders.specs.Values.{orderOf, byOrder, compared, comparedFrom, truthIn};
 ghost use Rattle.cells.specs.Counts.{countValue};
-ghost use Rattle.comparing.specs.Comparing.{Clipped, orderIn, Asks, integerTop};
+ghost use Rattle.comparing.specs.Comparing.{orderIn, Asks, integerTop};
 
 // How two values compare; apart where one is absent or null, or of another type.
 pub enum Compared {
@@ -35,33 +35,15 @@ pub fn truth_of(b: bool) -> Truth
     if b { Truth::True } else { Truth::False }
 }
 
-// The part of a range that a pool has.
-fn clipped(pool: &[u8], r: Range) -> Range
-    ensures { λ c. ⌜ Clipped (now (pool .entry)) r c ⌝ }
-{
-    let at = r.at;
-    let len = r.len;
-    if pool.len() <= at {
-        return Range { at: 0, len: 0 };
-    }
-    if len <= pool.len() - at {
-        return Range { at, len };
-    }
-    Range {
-        at,
-        len: pool.len() - at,
-    }
-}
-
 // How a text of the cell pool compares with one of the literal pool.
 fn compare_texts<'a>(literals: &'a [u8], cells: &'a [u8], cell: Range, literal: Range) -> Order
     ensures { λ r. ⌜ r ≡ byteOrder (rangeOf (now (cells .entry)) cell) (rangeOf (now (literals .entry)) literal) ⌝ }
 {
-    let x = words::operand_bytes(literals, cells, Operand::Cell(clipped(cells, cell)));
+    let x = words::operand_bytes(literals, cells, Operand::Cell(words::clip(cells, cell)));
     let y = words::operand_bytes(
         literals,
         cells,
-        Operand::Literal(clipped(literals, literal)),
+        Operand::Literal(words::clip(literals, literal)),
     );
     words::compare_bytes(x, y)
 }

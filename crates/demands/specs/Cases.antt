@@ -1,9 +1,7 @@
 -- Document 01's cases, from packed bytes to packed bytes, as one statement over one list. Assumes nothing.
 use mathlib.Core.Path.{_≡_, refl}
-use mathlib.Core.Bool.{true, false}
-use mathlib.Core.List.{List, [], _∷_, _++_}
+use mathlib.Core.List.{List, [], _∷_}
 use Prim.Native.Nat.{ℕ, _+_, _*_, _-_, _^_}
-use lib.ListN.{length}
 use Rattle.limits.specs.Limits.{tableRoom, tablePoolRoom, statisticsRoom, guaranteesRoom}
 use Rattle.words.specs.Word.{wordAt, wordBytes, firstWords, wordsOf, bytesOf}
 use Rattle.literals.specs.Signed.{signed, negated}

@@ -1,6 +1,6 @@
 -- Each premise of "nothing better" is needed: without it a block is kept that no rows with a match fit. Assumes nothing.
-use mathlib.Core.Path.{_≡_, refl, sym, _∙_, ap, subst}
-use mathlib.Core.Bool.{Bool, true, false, true≢false}
+use mathlib.Core.Path.{_≡_, refl, sym, _∙_, subst}
+use mathlib.Core.Bool.{true, false, true≢false}
 use mathlib.Core.List.{List, [], _∷_}
 use Prim.Native.Nat.{ℕ, suc, _-_, _^_}
 use native.Mathlib.Omega.{arith}
@@ -24,7 +24,7 @@ use Rattle.orders.specs.ValueLaws.{known-type}
 use Rattle.predicate.specs.Nodes.{nodeOf}
 use Rattle.predicate.specs.Predicates.{valuesAt, predicateAt}
 use Rattle.predicate.specs.Checking.{typesFine, formed, checkLiteral, checkLiterals, nodeFault, checkFrom, predicateFault}
-use Rattle.predicate.specs.Calls.{Rooms, rewriteFault}
+use Rattle.predicate.specs.Calls.{rewriteFault}
 use Rattle.statistics.specs.Statistics.{statisticOf, statisticsOf, placeOf, added, addedAll}
 use Rattle.table.specs.Comparisons.{minuses, turned}
 use Rattle.table.specs.Rewriting.{membersTable, membersLists, rewritten, lists}
@@ -50,7 +50,6 @@ use Rattle.spill.specs.Rewrite.{rewriting}
 use Rattle.spill.specs.Prune.{Call, flags, pruneFault, flagIn, flagsFrom, pruning}
 use Rattle.demands.specs.Calls.{Asked, outcomeOf, askedFor, Blocks, callOf, cellsIn}
 use Rattle.demands.specs.Cases.{integerCase, nullCase, minus, cell, absent, container, summary}
-use Rattle.demands.specs.Rows.{Fit}
 use Rattle.demands.specs.Sharp.{Possibly}
 
 abbrev c : Column

@@ -9,7 +9,7 @@ use native.Mathlib.Nat.{add-zero, zero-add}
 use native.Mathlib.Omega.{arith}
 use lib.ListN.{length, getD}
 use lib.Dec.{eqb}
-use Rattle.words.specs.Word.{wordsOf, bytesOf}
+use Rattle.words.specs.Word.{wordsOf}
 use Rattle.words.specs.WordLaws.{words-bytes}
 use Rattle.kleene.specs.declared.Truth.{Truth}
 use Rattle.kleene.specs.declared.Truth.the-variants.{False, Unknown, True}
@@ -18,24 +18,19 @@ use Rattle.literals.specs.Literals.{bitOf}
 use Rattle.predicate.specs.Predicates.{Predicate}
 use Rattle.predicate.specs.Meaning.{Row, meaning}
 use Rattle.predicate.specs.Rows.{In, RowOf}
-use Rattle.statistics.specs.declared.Statistic.{Statistic}
-use Rattle.statistics.specs.Statistics.{statisticWords}
 use Rattle.table.specs.Rewriting.{rewritten, statistics}
-use Rattle.table.specs.Encoding.{tableWords, poolOf}
-use Rattle.table.specs.Worth.{Cells, worth}
+use Rattle.table.specs.Worth.{worth}
 use Rattle.table.specs.Fitting.{FitCells}
 use Rattle.table.specs.Soundness.{rewriting-sound}
-use Rattle.guarantees.specs.Guarantees.{Guarantee, guarantees, guaranteeWord, guaranteeWords, notInField, answerDrops}
+use Rattle.guarantees.specs.Guarantees.{Guarantee, guarantees, guaranteeWords, answerDrops}
 use Rattle.guarantees.specs.GuaranteeLaws.{AllSmall, guarantee-not-in, guarantees-below}
 use Rattle.guarantees.specs.Fitting.{FitAnswer}
 use Rattle.guarantees.specs.Soundness.{Each, KeepsRow, guarantees-keep, answer-sound}
 use Rattle.limits.specs.Limits.{maxTableDepth}
 use Rattle.pruning.specs.TableReading.{tableAt}
-use Rattle.pruning.specs.Cells.{cellOf}
 use Rattle.pruning.specs.Evaluating.{isFalse, answersDrop, flagOf}
-use Rattle.predicate.specs.Calls.{Rooms, rewriteFault}
-use Rattle.spill.specs.Rewrite.{Outcome, refuses, writes, rewriting, outputs, predicateOf, tableOut, poolOut, statisticsOut, guaranteesOut}
-use Rattle.spill.specs.Prune.{Call, Pruned, flags, pruning, pruneFault, flagIn, flagsFrom, listIn, tableIn, unlessFault}
+use Rattle.spill.specs.Rewrite.{rewriting, outputs}
+use Rattle.spill.specs.Prune.{Call, flags, pruning, pruneFault, flagIn, flagsFrom, listIn, tableIn, unlessFault}
 use Rattle.demands.specs.Calls.{Asked, faultOf, outcomeOf, askedFor, Blocks, callOf, cellsIn}
 use Rattle.spill.specs.Bounds.{taken, call-bounded, call-list, call-table}
 

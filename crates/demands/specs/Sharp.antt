@@ -1,17 +1,16 @@
 -- Demand 3, second half, "nothing better was possible": where a block is kept for one integer comparison, some rows fit its cells and
 -- hold a match. From rewriting's call and pruning's call to rows. Assumes nothing.
 use mathlib.Core.Path.{_≡_, refl, sym, _∙_, ap, subst}
-use mathlib.Core.Bool.{Bool, true, false, cond, _&&_, _||_, true≢false}
+use mathlib.Core.Bool.{Bool, true, false, cond, true≢false}
 use mathlib.Core.Logic.{_⊎_, inl, inr, ⊎-elim}
 use mathlib.Core.List.{List, [], _∷_, _++_}
-use Prim.Native.Nat.{ℕ, zero, suc, _+_, _*_, _/_, _<_, _≤_}
-use native.Mathlib.Nat.{add-zero, zero-add}
+use Prim.Native.Nat.{ℕ, suc, _+_, _*_, _<_, _≤_}
 use native.Mathlib.Omega.{arith}
 use lib.ListN.{length, getD}
-use lib.Dec.{eqb, leb, ltb}
+use lib.Dec.{eqb, ltb}
 use lib.IntN.{ℤ, pos}
 use lib.Signed.{leZ}
-use borrow.Author.Tests.{eq-eqb, lt-ltb, ltb-true}
+use borrow.Author.Tests.{eq-eqb}
 use Rattle.operators.specs.declared.Operator.{Operator}
 use Rattle.operators.specs.declared.Operator.the-variants.{Equal, NotEqual, Below, AtMost, Above, AtLeast, Distinct, NotDistinct}
 use Rattle.kleene.specs.declared.Truth.{Truth}
@@ -19,27 +18,26 @@ use Rattle.kleene.specs.declared.Truth.the-variants.{False, True}
 use Rattle.literals.specs.Signed.{Fits64}
 use Rattle.literals.specs.Literals.{Value, null, int, integerType}
 use Rattle.orders.specs.Instances.{numbers}
-use Rattle.orders.specs.Values.{isNull, compared}
+use Rattle.orders.specs.Values.{isNull}
 use Rattle.predicate.specs.declared.Column.{Column}
 use Rattle.predicate.specs.Predicates.{Predicate, comparison}
 use Rattle.predicate.specs.Checking.{typeIn}
 use Rattle.predicate.specs.Meaning.{Row, valueIn, meaning}
-use Rattle.predicate.specs.Rows.{In, OfType, RowOf}
+use Rattle.predicate.specs.Rows.{In, OfType}
 use Rattle.statistics.specs.declared.Statistic.{Statistic}
 use Rattle.statistics.specs.declared.Statistic.the-variants.{Least, Greatest, Blanks, Rows}
 use Rattle.statistics.specs.Statistics.{sameStatistic, columnIn, placeOf, added, addedAll}
-use Rattle.statistics.specs.ListLaws.{Listed, same-is, place-further, listed-here, listed-further, addedAll-listed}
-use Rattle.table.specs.Comparisons.{Turned, asks, turned, minuses, comparisonForm, comparisonLists, turnedForm, turnedLists}
+use Rattle.statistics.specs.ListLaws.{Listed, same-is, listed-here, listed-further, addedAll-listed}
+use Rattle.table.specs.Comparisons.{asks, turned, minuses, comparisonForm, comparisonLists, turnedForm, turnedLists}
 use Rattle.table.specs.Rewriting.{rewritten, lists, statistics}
 use Rattle.table.specs.Naming.{Each}
 use Rattle.table.specs.Worth.{Cells, worth}
-use Rattle.table.specs.Fitting.{FitCells}
 use Rattle.words.specs.Word.{wordsOf}
 use Rattle.words.specs.Tests.{and-both}
 use Rattle.guarantees.specs.Guarantees.{Guarantee, guarantees}
-use Rattle.pruning.specs.Cells.{cellFine, cellValue, cellOf, rowsFine}
+use Rattle.pruning.specs.Cells.{cellFine, cellValue, rowsFine}
 use Rattle.pruning.specs.GridLaws.{IntCell, CountCell, cell-by, listed-fine, unlisted-cell, count-cell, bound-cell}
-use Rattle.pruning.specs.Evaluating.{answersDrop, flagOf}
+use Rattle.pruning.specs.Evaluating.{flagOf}
 use Rattle.spill.specs.Prune.{Call, flags, pruning, pruneFault, flagIn, listIn, tableIn}
 use Rattle.spill.specs.Bounds.{prune-taken}
 use Rattle.demands.specs.Calls.{Asked, faultOf, outcomeOf, askedFor, Blocks, callOf, cellsIn}

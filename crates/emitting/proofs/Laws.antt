@@ -1,6 +1,5 @@
 -- What the way of a node says of its table, and that a node's literal fits a word. Assumes nothing.
-use mathlib.Core.Path.{_≡_, refl, sym, subst, ap, _∙_}
-use mathlib.Core.Bool.{Bool}
+use mathlib.Core.Path.{_≡_, refl, sym, subst, ap}
 use mathlib.Core.List.{List, [], _∷_}
 use Prim.Native.Nat.{ℕ, zero, suc, _+_, _-_, _<_}
 use native.Mathlib.Omega.{arith}
@@ -21,7 +20,7 @@ use Rattle.predicate.specs.declared.Node.the-variants.{Constant, Join, Not, Tru
 use Rattle.walking.specs.Places.{Near, near-first, near-second}
 use Rattle.table.specs.declared.Folded.{Folded}
 use Rattle.table.specs.declared.Folded.the-variants.{Fixed as Constantly, Left, Right, Both as Pair}
-use Rattle.table.specs.Tables.{Table, always, both, known, folds, folded}
+use Rattle.table.specs.Tables.{always, both, known, folds, folded}
 use Rattle.table.specs.Measures.{tableWidth}
 use Rattle.table.specs.Rewriting.{constantTable, rewritten}
 use Rattle.folding.specs.Folds.{partOf}

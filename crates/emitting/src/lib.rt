@@ -11,7 +11,6 @@ use writing::Spot;
 ghost use mathlib.Core.Path.{_≡_};
 ghost use mathlib.Core.List.{List};
 ghost use Prim.Native.Nat.{ℕ, _-_, _<_};
-ghost use lib.ListN.{length};
 ghost use Rattle.words.specs.Word.{wordsOf};
 ghost use Rattle.literals.specs.Literals.{valueOf, LiteralFits};
 ghost use Rattle.predicate.specs.Predicates.{nodeAt, predicateAt};

@@ -12,10 +12,8 @@ use Rattle.words.specs.declared.Order.the-variants.{Less, Equal as Same, Greate
 use Rattle.operators.specs.Operators.{swapOf}
 use Rattle.operators.specs.declared.Operator.{Operator}
 use Rattle.operators.specs.declared.Operator.the-variants.{Equal, NotEqual, Below, AtMost, Above, AtLeast, Distinct, NotDistinct}
-use Rattle.kleene.specs.declared.Truth.the-variants.{False, True}
-use Rattle.kleene.specs.declared.Joining.{Joining}
+use Rattle.kleene.specs.declared.Truth.the-variants.{True}
 use Rattle.kleene.specs.declared.Joining.the-variants.{And, Or}
-use Rattle.kleene.specs.Truths.{truthOf, kleeneAnd, kleeneOr}
 use Rattle.kleene.specs.TruthLaws.{false-true, unknown-true, and-true, or-true}
 use Rattle.literals.specs.Literals.{Value}
 use Rattle.orders.specs.Values.{orderOf, byOrder, compared, comparedFrom, isNull, isSame, alike}
@@ -25,7 +23,7 @@ use Rattle.predicate.specs.Predicates.{Predicate, constant, join, not as negati
 use Rattle.predicate.specs.Measures.{width}
 use Rattle.predicate.specs.Meaning.{Row, valueIn, flips, inList, notInList, listed, meaning}
 use Rattle.predicate.specs.Rows.{In}
-use Rattle.guarantees.specs.Guarantees.{Guarantee, unlessNull, nonNull, overSet, unflipped, ofComparison, ofJoin, guarantees, answerDrops}
+use Rattle.guarantees.specs.Guarantees.{Guarantee, unlessNull, nonNull, overSet, unflipped, guarantees, answerDrops}
 use Rattle.guarantees.specs.Fitting.{among, FitAnswer}
 
 -- ---- one value against one literal

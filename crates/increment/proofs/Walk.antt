@@ -9,7 +9,7 @@ use lib.ListN.{length, getD, List·getD-append}
 use lib.Seq.{getD-append-seam, getD-append-add}
 use lib.Dec.{leb}
 use borrow.Author.Tests.{le-leb, lt-leb, lt-ltb, le-ltb, leb-true, leb-false}
-use Rattle.text.specs.Utf8.{encode, Conts, Shape, shape, short, long, Size, size, one, two, three, four}
+use Rattle.text.specs.Utf8.{encode, Conts, Shape, short, long, Size, one, two, three, four}
 use Rattle.increment.specs.Walk.{isCont, startAt, of2, of3, of4, decodeAt}
 
 -- ---- a step of the walk

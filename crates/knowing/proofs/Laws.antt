@@ -1,14 +1,12 @@
 -- Laws of what is known, in the code's terms. Assumes nothing.
-use mathlib.Core.Path.{_≡_, refl, sym, _∙_}
-use mathlib.Core.Bool.{Bool, true, false}
+use mathlib.Core.Path.{_≡_, sym, _∙_}
+use mathlib.Core.Bool.{Bool}
 use mathlib.Core.List.{List}
 use mathlib.Core.Option.{Option}
-use Prim.Native.Nat.{ℕ, _-_, _≤_, _<_, min}
+use Prim.Native.Nat.{ℕ, _-_, _≤_, _<_}
 use native.Mathlib.Omega.{arith}
-use lib.ListN.{length, take, drop, length-drop, drop-of-length-le}
-use lib.Seq.{take-all}
-use lib.Dec.{ltb}
-use borrow.Author.Tests.{ltb-true, ltb-false, le-leb, lt-leb}
+use lib.ListN.{length}
+use borrow.Author.Tests.{le-leb, lt-leb}
 use Rattle.increment.specs.declared.End.{End}
 use Rattle.increment.specs.declared.End.the-variants.{Until, Absent}
 use Rattle.increment.specs.Outcome.{endOf, until-some, absent-none}
@@ -24,34 +22,6 @@ use Rattle.turning.specs.Turns.{turnedOf}
 use Rattle.turning.specs.declared.Turned.{Turned}
 use Rattle.turning.specs.declared.Turned.the-variants.{Against, Unhandled}
 use Rattle.knowing.specs.Knowns.{known-turned, knownBounded}
-
--- ---- a range cut to its pool
-
-drop-cut : (at : ℕ) (l : List ℕ) → drop (min at (length l)) l ≡ drop at l
-drop-cut at l = go (ltb at (length l)) refl
-  where
-    go : (b : Bool) → ltb at (length l) ≡ b → drop (min at (length l)) l ≡ drop at l
-    go true q = let h = ltb-true at (length l) q in let e : min at (length l) ≡ at = omega arith in rw e
-    go false q =
-        let h = ltb-false at (length l) q in
-        let e : min at (length l) ≡ length l = omega arith in
-        let z : length l ≤ length l = omega arith in
-        rw (e, drop-of-length-le l z, drop-of-length-le l h)
-
-take-cut : (n : ℕ) (l : List ℕ) → take (min n (length l)) l ≡ take n l
-take-cut n l = go (ltb n (length l)) refl
-  where
-    go : (b : Bool) → ltb n (length l) ≡ b → take (min n (length l)) l ≡ take n l
-    go true q = let h = ltb-true n (length l) q in let e : min n (length l) ≡ n = omega arith in rw e
-    go false q =
-        let h = ltb-false n (length l) q in
-        let e : min n (length l) ≡ length l = omega arith in
-        rw (e, take-all n l h) (take-all (length l) l (omega arith))
-
-pub range-cut : (l : List ℕ) (at n : ℕ) → take (min n (length l - min at (length l))) (drop (min at (length l)) l) ≡ take n (drop at l)
-range-cut l at n =
-    let e : length l - min at (length l) ≡ length (drop at l) = rw length-drop (omega arith) in
-    rw (drop-cut at l, e) (take-cut n (drop at l))
 
 -- ---- comparisons and patterns
 

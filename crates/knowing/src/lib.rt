@@ -10,7 +10,7 @@ use table::Known;
 use turning::Turned;
 use words::Range;
 ghost use mathlib.Core.Path.{_≡_};
-ghost use Prim.Native.Nat.{_+_, _≤_, _<_, min};
+ghost use Prim.Native.Nat.{_+_, _≤_, _<_};
 ghost use lib.ListN.{length};
 ghost use Rattle.limits.specs.Limits.{maxLiteralBytes};
 ghost use Rattle.words.specs.Word.{wordsOf, rangeOf};
@@ -18,7 +18,6 @@ ghost use Rattle.literals.specs.Literals.{valueOf};
 ghost use Rattle.text.specs.Utf8.{Utf8};
 ghost use Rattle.text.specs.Upper.{upperOf};
 ghost use Rattle.predicate.specs.Predicates.{valuesAt};
-ghost use Rattle.predicate.specs.Checking.{typeIn};
 ghost use Rattle.predicate.specs.Accepted.{Pattern};
 ghost use Rattle.walking.specs.Places.{Near};
 ghost use Rattle.table.specs.Tables.{known, folds as foldsOf, knownFold};
@@ -98,20 +97,11 @@ pub fn known_comparison(
     }
 }
 
-// The smaller of two numbers.
-fn least(a: usize, b: usize) -> usize
-    ensures { λ r. ⌜ r ≡ min a b ⌝ }
-{
-    if a < b { a } else { b }
-}
-
 // The bytes that a range names, as far as the pool has them.
 pub fn clipped(pool: &[u8], r: Range) -> &[u8]
     ensures { λ s. ⌜ now s ≡ rangeOf (now (pool .entry)) r ⌝ }
 {
-    let at = least(r.at, pool.len());
-    let len = least(r.len, pool.len() - at);
-    &pool[at..at + len]
+    words::range_bytes(pool, words::clip(pool, r))
 }
 
 // What LIKE comes to with a pattern that is a text: open where it has an upper bound.

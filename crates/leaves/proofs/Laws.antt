@@ -1,5 +1,5 @@
 -- The members of a list one after the other, a turned comparison, LIKE, and a range as far as its pool goes. Assumes nothing.
-use mathlib.Core.Path.{_≡_, refl, sym, _∙_}
+use mathlib.Core.Path.{_≡_, sym, _∙_}
 use mathlib.Core.Bool.{Bool, true, false}
 use mathlib.Core.Option.{Option}
 use mathlib.Core.List.{List, [], _++_}

@@ -14,12 +14,11 @@ ghost use Rattle.words.specs.Word.{wordsOf, rangeOf};
 ghost use Rattle.literals.specs.Literals.{valueOf};
 ghost use Rattle.text.specs.Utf8.{Utf8};
 ghost use Rattle.text.specs.Upper.{upperOf};
-ghost use Rattle.predicate.specs.Checking.{typeIn};
 ghost use Rattle.predicate.specs.Predicates.{valuesAt, predicateAt};
 ghost use Rattle.predicate.specs.Accepted.{Pattern};
 ghost use Rattle.walking.specs.Places.{Near};
 ghost use Rattle.table.specs.Comparisons.{patternUpper, likeLists};
-ghost use Rattle.table.specs.Rewriting.{listOperator, notLists, comparisonStatistics, membersLists, listLists};
+ghost use Rattle.table.specs.Rewriting.{notLists, comparisonStatistics, membersLists, listLists};
 ghost use Rattle.listing.specs.Listing.{Room, Grown, isBounded};
 
 // Lists what a comparison asks for; nothing where it is unhandled.

@@ -2,12 +2,11 @@
 use mathlib.Core.Bool.{Bool, true, false, not}
 use mathlib.Core.Option.{Option, some, none}
 use Rattle.words.specs.declared.Order.{Order}
-use Rattle.words.specs.declared.Order.the-variants.{Less, Equal as Same, Greater}
 use Rattle.operators.specs.Operators.{holds}
 use Rattle.operators.specs.declared.Operator.{Operator}
 use Rattle.operators.specs.declared.Operator.the-variants.{Equal, NotEqual, Below, AtMost, Above, AtLeast, Distinct, NotDistinct}
 use Rattle.kleene.specs.declared.Truth.{Truth}
-use Rattle.kleene.specs.declared.Truth.the-variants.{False, Unknown}
+use Rattle.kleene.specs.declared.Truth.the-variants.{Unknown}
 use Rattle.kleene.specs.Truths.{truthOf}
 use Rattle.literals.specs.Literals.{Value, null, int, text, truth}
 use Rattle.orders.specs.Order.{orderBy}

@@ -2,11 +2,11 @@
 use mathlib.Core.Path.{_≡_, sym, ap, _∙_}
 use mathlib.Core.Bool.{false}
 use mathlib.Core.List.{List}
-use mathlib.Core.Option.{some, none}
-use Prim.Native.Nat.{ℕ, _+_, _^_, _≤_, _<_}
+use mathlib.Core.Option.{some}
+use Prim.Native.Nat.{ℕ, _≤_}
 use native.Mathlib.Omega.{arith}
 use lib.ListN.{length, take}
-use lib.Seq.{sets, length-sets}
+use lib.Seq.{length-sets}
 use Rattle.limits.specs.Limits.{maxLiteralBytes}
 use Rattle.words.specs.Stores.{written, sets-front, take-written, length-written}
 use Rattle.text.specs.Utf8.{Utf8}
@@ -15,8 +15,8 @@ use Rattle.text.specs.Upper.{upperOf, prefix-length, upper-length}
 use Rattle.text.specs.Wrote.{Wrote}
 use Rattle.increment.specs.declared.End.{End}
 use Rattle.increment.specs.declared.End.the-variants.{Until, Absent}
-use Rattle.increment.specs.Outcome.{Outcome, endOf, over, until-some, absent-none}
-use Rattle.table.specs.Tables.{Table, unhandled}
+use Rattle.increment.specs.Outcome.{Outcome, endOf, until-some, absent-none}
+use Rattle.table.specs.Tables.{unhandled}
 use Rattle.table.specs.Comparisons.{wrapped, likeForm, boundedForm}
 use Rattle.predicate.specs.declared.Column.{Column}
 

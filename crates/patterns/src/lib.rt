@@ -3,7 +3,6 @@ use increment::End;
 use literals::Literal;
 use predicate::Column;
 use writing::Spot;
-ghost use mathlib.Core.Path.{_≡_};
 ghost use mathlib.Core.Bool.{false};
 ghost use Prim.Native.Nat.{_^_, _≤_, _<_};
 ghost use lib.ListN.{length};

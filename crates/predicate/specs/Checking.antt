@@ -1,10 +1,8 @@
 -- Node checking: word by word the refusal that document 01 gives, 4 before 5 before 6 in a word, or how far checking has come.
 -- A fault is a refusal's number, or 0. Assumes nothing.
-use mathlib.Core.Path.{_≡_, refl}
 use mathlib.Core.Bool.{Bool, true, false, cond, not, _&&_, _||_}
 use mathlib.Core.List.{List, [], _∷_}
-use Prim.Native.Nat.{ℕ, zero, suc, _+_, _-_}
-use native.Mathlib.Numerals.{sub-one}
+use Prim.Native.Nat.{ℕ, zero, suc, _+_}
 use lib.ListN.{length, getD}
 use lib.Dec.{eqb, leb, ltb}
 use Rattle.limits.specs.Limits.{maxColumns, maxNodes, maxListLiterals, maxLiteralBytes, maxAllLiteralBytes, maxDepth, malformed, overLimit, misfit}

@@ -5,7 +5,6 @@ use mathlib.Core.List.{List, [], _∷_}
 use Prim.Native.Nat.{ℕ, zero, suc}
 use lib.IntN.{negℤ}
 use lib.ListN.{getD}
-use Rattle.operators.specs.declared.Operator.{Operator}
 use Rattle.operators.specs.declared.Operator.the-variants.{Equal, NotEqual}
 use Rattle.kleene.specs.declared.Truth.{Truth}
 use Rattle.kleene.specs.declared.Truth.the-variants.{False, Unknown, True}

@@ -5,7 +5,6 @@ use literals::Literal;
 use operators::Operator;
 use operators::OperatorRead;
 ghost use mathlib.Core.Path.{_≡_};
-ghost use lib.Dec.{eqb};
 ghost use Rattle.words.specs.Word.{wordsOf};
 ghost use Rattle.operators.specs.Operators.{operatorOf};
 ghost use Rattle.predicate.specs.Nodes.{kindOf, operatorField, columnOf, flipsOf, firstField, countOf, zeroField, constantOf, orEqual, negatedOf, nodeOf};

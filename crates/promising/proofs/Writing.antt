@@ -1,7 +1,7 @@
 -- Writing none, one, or those of both sides of an AND. Assumes nothing.
 use mathlib.Core.Path.{_≡_, refl, sym, ap, _∙_}
 use mathlib.Core.List.{List, [], _∷_, _++_}
-use Prim.Native.Nat.{ℕ, suc, _+_, _*_, _-_, _^_, _≤_, _<_}
+use Prim.Native.Nat.{ℕ, _+_, _*_, _-_, _^_, _≤_, _<_}
 use native.Mathlib.Omega.{arith}
 use lib.ListN.{length, length-append}
 use lib.Seq.{sets, length-sets}
@@ -10,7 +10,7 @@ use Rattle.words.specs.WordLaws.{bytes-none, bytes-one, bytes-append, length-by
 use Rattle.words.specs.Stores.{sets-then}
 use Rattle.kleene.specs.declared.Joining.the-variants.{And}
 use Rattle.predicate.specs.Predicates.{Predicate, constant, join, not, column, isNull, isNotNull, comparison, list, like, Read, thenBoth, predicateAt}
-use Rattle.predicate.specs.Measures.{width, depth}
+use Rattle.predicate.specs.Measures.{width}
 use Rattle.guarantees.specs.Guarantees.{Guarantee, guarantees, guaranteeWords}
 use Rattle.guarantees.specs.GuaranteeLaws.{length-guarantees}
 use Rattle.walking.specs.Places.{next-width}

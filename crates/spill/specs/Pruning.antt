@@ -1,33 +1,33 @@
 -- A pruning call from its refusal, or none, to its flags: in the terms of the code. Assumes nothing.
 use mathlib.Core.Path.{_≡_, refl, sym, ap, fun-ext, _∙_}
 use mathlib.Core.Bool.{Bool, true, false, cond, _&&_}
-use mathlib.Core.List.{List, [], _∷_}
+use mathlib.Core.List.{List}
 use Prim.Native.Nat.{ℕ, zero, suc, _+_, _*_, _/_, _≤_, _<_}
-use native.Mathlib.Nat.{mul-left-comm, mul-le-mul-right, suc-mul}
+use native.Mathlib.Nat.{mul-left-comm}
 use native.Mathlib.Omega.{arith}
 use lib.ListN.{length, getD, take, drop, length-drop}
 use lib.Seq.{sets, getD-take, length-take-le}
 use lib.Dec.{eqb, leb, ltb}
 use borrow.Author.Tests.{eqb-true, leb-true, ltb-true}
-use Rattle.limits.specs.Limits.{maxContainers, maxTableDepth, statisticsRoom, guaranteesRoom, badSchema, badContainers, badTable, badGrid, badAnswers}
+use Rattle.limits.specs.Limits.{maxContainers, badSchema, badContainers, badTable, badGrid}
 use Rattle.words.specs.Tests.{and-both}
 use Rattle.words.specs.Word.{wordAt, wordsOf}
 use Rattle.words.specs.WordLaws.{AllBelow, length-words, words-at, word-drop}
-use Rattle.words.specs.Stores.{written, sets-front}
-use Rattle.literals.specs.Literals.{Value, null}
+use Rattle.words.specs.Stores.{sets-front}
+use Rattle.literals.specs.Literals.{null}
 use Rattle.predicate.specs.Checking.{schemaFine}
 use Rattle.statistics.specs.Statistics.{placeOf}
 use Rattle.statistics.specs.Reading.{length-read}
 use Rattle.statistics.specs.declared.Statistic.{Statistic}
 use Rattle.table.specs.Worth.{Cells, worth}
 use Rattle.pruning.specs.TableChecking.{checkedTable}
-use Rattle.pruning.specs.Cells.{cellValue, cellOf, answersFine}
+use Rattle.pruning.specs.Cells.{cellValue, cellOf}
 use Rattle.pruning.specs.Evaluating.{answersDrop, flagOf}
 use Rattle.cells.specs.Grids.{listOf}
 use Rattle.evaluating.specs.Rows.{rowCells}
-use Rattle.evaluating.specs.FromChecks.{Checked, checked-says}
-use Rattle.flagging.specs.Flags.{width, rowOf, Fits, flagFor, flagsFor, length-flags, next-row}
-use Rattle.spill.specs.Prune.{Call, listIn, tableIn, gridFine, pruneFault, flagIn, flagsFrom, Pruned, refuses, flags, unlessFault, pruning, resultOf, flagsOut}
+use Rattle.evaluating.specs.FromChecks.{checked-says}
+use Rattle.flagging.specs.Flags.{width, Fits, flagFor, flagsFor, length-flags, next-row}
+use Rattle.spill.specs.Prune.{Call, listIn, tableIn, gridFine, pruneFault, flagIn, flagsFrom, flags, pruning}
 use Rattle.spill.specs.Done.{Flagged}
 
 -- ---- a container's row and its cells

@@ -31,7 +31,7 @@ use Rattle.writing.specs.Writing.{Room, Wrote}
 use Rattle.promising.specs.declared.Written.{Written}
 use Rattle.promising.specs.Wrote as Promised
 use Rattle.promising.specs.Wrote.{whole-room}
-use Rattle.spill.specs.Rewrite.{answerLayout, Outcome, refuses, writes, predicateOf, outputs, unlessFault, rewriting, answerWord, tableOut, poolOut, statisticsOut, guaranteesOut}
+use Rattle.spill.specs.Rewrite.{answerLayout, predicateOf, outputs, rewriting, answerWord}
 use Rattle.spill.specs.Bounds.{Taken, taken, call-list}
 use Rattle.spill.specs.Done.{Buffers, Rewrote}
 

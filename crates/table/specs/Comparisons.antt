@@ -1,7 +1,7 @@
 -- Comparison forms: the literal turned to the right and its flips taken off, then each operator's form and the statistics that it lists.
 -- Assumes nothing.
 use mathlib.Core.Bool.{Bool, true, false, cond, not, _||_}
-use mathlib.Core.List.{List, [], _∷_, _++_}
+use mathlib.Core.List.{List, [], _∷_}
 use mathlib.Core.Option.{Option, some, none}
 use Prim.Native.Nat.{ℕ, zero, suc}
 use lib.Dec.{eqb, ltb}
@@ -10,7 +10,7 @@ use Rattle.operators.specs.declared.Operator.{Operator}
 use Rattle.operators.specs.declared.Operator.the-variants.{Equal, NotEqual, Below, AtMost, Above, AtLeast, Distinct, NotDistinct}
 use Rattle.kleene.specs.declared.Joining.the-variants.{And, Or}
 use Rattle.literals.specs.Signed.{negated}
-use Rattle.literals.specs.Literals.{Value, null, int, text, truth, integerType, textType, truthType}
+use Rattle.literals.specs.Literals.{Value, null, int, text, truth, integerType, truthType}
 use Rattle.literals.specs.declared.Negated.{Negated}
 use Rattle.literals.specs.declared.Negated.the-variants.{To, Unhandled}
 use Rattle.text.specs.Pattern.{prefixOf}

@@ -1,14 +1,13 @@
 -- A table as words and a literal pool: statistics by their places in a list, literals in table order, each with its own bytes.
 -- Assumes nothing.
-use mathlib.Core.Bool.{Bool}
 use mathlib.Core.List.{List, [], _∷_, _++_}
 use Prim.Native.Nat.{ℕ, _+_}
 use lib.ListN.{length}
-use Rattle.words.specs.Layout.{field, packed}
+use Rattle.words.specs.Layout.{packed}
 use Rattle.operators.specs.Operators.{codeOf}
 use Rattle.kleene.specs.declared.Joining.{Joining}
 use Rattle.kleene.specs.declared.Joining.the-variants.{And, Or}
-use Rattle.literals.specs.Literals.{Value, valueBytes, valueWord, bitOf}
+use Rattle.literals.specs.Literals.{valueBytes, valueWord, bitOf}
 use Rattle.statistics.specs.declared.Statistic.{Statistic}
 use Rattle.statistics.specs.Statistics.{placeOf}
 use Rattle.table.specs.Tables.{Table, always, both, against, positive, differ, holds, negation}

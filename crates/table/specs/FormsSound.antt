@@ -1,14 +1,14 @@
 -- Where a comparison's form, or LIKE's, is false on cells that fit, no row's value satisfies it. Assumes nothing.
-use mathlib.Core.Path.{_≡_, refl, sym, _∙_, ap, subst}
+use mathlib.Core.Path.{_≡_, refl, sym, _∙_, subst}
 use mathlib.Core.Bool.{Bool, true, false, not, _&&_, _||_, true≢false, and-eq-true-iff}
 use mathlib.Core.Logic.{_⊎_, inl, inr, ⊎-elim}
 use mathlib.Core.List.{List, [], _∷_}
 use mathlib.Core.Option.{Option, some, none}
-use Prim.Native.Nat.{ℕ, zero, suc, _<_, _≤_}
+use Prim.Native.Nat.{ℕ, suc, _<_, _≤_}
 use native.Mathlib.Omega.{arith}
 use lib.ListN.{length}
 use lib.Dec.{leb}
-use lib.IntN.{ℤ, pos}
+use lib.IntN.{pos}
 use borrow.Author.Tests.{leb-true, not-false}
 use Rattle.words.specs.declared.Order.{Order}
 use Rattle.words.specs.declared.Order.the-variants.{Less, Equal as Same, Greater}
@@ -24,7 +24,7 @@ use Rattle.text.specs.Utf8.{Utf8}
 use Rattle.text.specs.Pattern.{prefixOf}
 use Rattle.text.specs.Match.{likeText}
 use Rattle.text.specs.Upper.{upperOf}
-use Rattle.orders.specs.Order.{TotalOrder, compares, compares-test, order-equal}
+use Rattle.orders.specs.Order.{compares, compares-test}
 use Rattle.orders.specs.Forms.{form, form-false}
 use Rattle.orders.specs.Likes.{like-form-false}
 use Rattle.orders.specs.Instances.{numbers}
@@ -34,8 +34,7 @@ use Rattle.predicate.specs.declared.Column.{Column}
 use Rattle.predicate.specs.Meaning.{Row, valueIn}
 use Rattle.predicate.specs.Rows.{In}
 use Rattle.statistics.specs.declared.Statistic.the-variants.{Least, Greatest, Blanks, Rows}
-use Rattle.table.specs.Tables.{Table}
-use Rattle.table.specs.Comparisons.{hasBlanks, hasValues, equalForm, unequalForm, comparisonForm, boundedForm}
+use Rattle.table.specs.Comparisons.{hasBlanks, hasValues, comparisonForm, boundedForm}
 use Rattle.table.specs.Worth.{Cells, worth}
 use Rattle.table.specs.Fitting.{oneIf, blanksIn, Counts, Bounds, FitCells}
 

@@ -14,7 +14,7 @@ use Rattle.predicate.specs.declared.Column.{Column}
 use Rattle.statistics.specs.declared.Statistic.{Statistic}
 use Rattle.table.specs.declared.Known.{Known}
 use Rattle.table.specs.declared.Known.the-variants.{False, True, Open}
-use Rattle.table.specs.Tables.{Table, always, both, known, knownBool, joined, folds, folded}
+use Rattle.table.specs.Tables.{Table, always, both, known, joined}
 use Rattle.table.specs.Encoding.{joiningKind, tableWord, poolOf, tableWords}
 use Rattle.table.specs.Constants.{Solid, solid-open, form-solid}
 use Rattle.predicate.specs.Checking.{typeIn}

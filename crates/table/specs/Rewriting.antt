@@ -1,9 +1,9 @@
 -- Tree rewriting: the table of a predicate, and the statistics that it lists. Assumes nothing.
-use mathlib.Core.Bool.{Bool, true, false, cond, _&&_}
+use mathlib.Core.Bool.{Bool, true, false, cond}
 use mathlib.Core.List.{List, [], _∷_, _++_}
-use Prim.Native.Nat.{ℕ, zero, suc}
-use lib.ListN.{length, getD}
-use lib.Dec.{leb, ltb}
+use Prim.Native.Nat.{ℕ}
+use lib.ListN.{length}
+use lib.Dec.{leb}
 use Rattle.operators.specs.declared.Operator.{Operator}
 use Rattle.operators.specs.declared.Operator.the-variants.{Equal, NotEqual}
 use Rattle.kleene.specs.declared.Truth.{Truth}

@@ -1,10 +1,9 @@
 -- Nothing better is possible for one integer comparison: where its table is not false, some rows that fit the cells hold a match.
 -- Assumes nothing.
 use mathlib.Core.Path.{_≡_, refl, sym, _∙_, ap, subst}
-use mathlib.Core.Bool.{Bool, true, false, not, _&&_, _||_, true≢false, and-eq-true-iff}
+use mathlib.Core.Bool.{Bool, true, false, _&&_, _||_, true≢false, and-eq-true-iff}
 use mathlib.Core.Logic.{_⊎_, inl, inr, ⊎-elim}
-use mathlib.Core.List.{List, [], _∷_, _++_}
-use mathlib.Core.Option.{Option, some, none}
+use mathlib.Core.List.{List, [], _∷_}
 use Prim.Native.Nat.{ℕ, zero, suc, _+_, _-_, _<_, _≤_}
 use native.Mathlib.Omega.{arith}
 use lib.ListN.{length, getD}
@@ -15,12 +14,12 @@ use borrow.Author.Tests.{eqb-true, eqb-false, leb-true, leb-false, le-leb, not-t
 use Rattle.operators.specs.declared.Operator.{Operator}
 use Rattle.operators.specs.declared.Operator.the-variants.{Equal, NotEqual, Below, AtMost, Above, AtLeast, Distinct, NotDistinct}
 use Rattle.kleene.specs.declared.Truth.{Truth}
-use Rattle.kleene.specs.declared.Truth.the-variants.{False, Unknown, True}
+use Rattle.kleene.specs.declared.Truth.the-variants.{False, True}
 use Rattle.kleene.specs.Truths.{truthOf, kleeneAnd, kleeneOr}
 use Rattle.literals.specs.Signed.{Fits64}
 use Rattle.literals.specs.Literals.{Value, null, int}
 use Rattle.orders.specs.Order.{compares, compares-test}
-use Rattle.orders.specs.Forms.{form, form-met, Met}
+use Rattle.orders.specs.Forms.{form, form-met}
 use Rattle.orders.specs.Instances.{numbers}
 use Rattle.orders.specs.Values.{isNull, compared}
 use Rattle.orders.specs.ValueLaws.{by-compared}
@@ -30,7 +29,7 @@ use Rattle.predicate.specs.Rows.{In}
 use Rattle.statistics.specs.declared.Statistic.the-variants.{Least, Greatest, Blanks, Rows}
 use Rattle.table.specs.Comparisons.{comparisonForm, hasValues, hasBlanks}
 use Rattle.table.specs.Worth.{Cells, worth}
-use Rattle.table.specs.Fitting.{oneIf, blanksIn, Counts, Bounds, FitCells}
+use Rattle.table.specs.Fitting.{blanksIn, Counts, Bounds, FitCells}
 
 -- ---- rows with one column filled
 

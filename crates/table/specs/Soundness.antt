@@ -1,7 +1,7 @@
 -- Rewriting is sound: where a predicate's table is false on cells that fit some rows, the predicate is true of none of them.
 -- Assumes nothing.
 use mathlib.Core.Path.{_≡_, refl, sym, _∙_, ap, subst}
-use mathlib.Core.Bool.{Bool, true, false, cond, true≢false}
+use mathlib.Core.Bool.{Bool, true, false, cond}
 use mathlib.Core.Logic.{⊎-elim}
 use mathlib.Core.List.{List, [], _∷_}
 use mathlib.Core.Option.{Option, some, none}
@@ -16,7 +16,7 @@ use Rattle.kleene.specs.declared.Joining.{Joining}
 use Rattle.kleene.specs.declared.Joining.the-variants.{And, Or}
 use Rattle.kleene.specs.Truths.{truthOf, kleene, kleeneAnd, kleeneOr, kleeneNot}
 use Rattle.kleene.specs.TruthLaws.{Refutes, refutes-both, false-true, unknown-false, unknown-true, truth-true, truth-false, and-true, or-false, or-true, not-true, not-false, regrouped}
-use Rattle.literals.specs.Literals.{Value, null, int, text, truth, textType}
+use Rattle.literals.specs.Literals.{Value, null, int, text, truth}
 use Rattle.text.specs.Utf8.{Utf8}
 use Rattle.text.specs.Pattern.{prefixOf}
 use Rattle.text.specs.Match.{likeText}
@@ -27,15 +27,15 @@ use Rattle.orders.specs.Values.{compared, comparedFrom, truthIn}
 use Rattle.predicate.specs.declared.Column.{Column}
 use Rattle.predicate.specs.Predicates.{Predicate, constant, join, not, column, isNull, isNotNull, comparison, list, like}
 use Rattle.predicate.specs.Checking.{typeIn}
-use Rattle.predicate.specs.Meaning.{Row, valueIn, flips, inList, notInList, listed, likeValue, unless, meaning}
+use Rattle.predicate.specs.Meaning.{Row, valueIn, flips, listed, likeValue, unless, meaning}
 use Rattle.predicate.specs.Rows.{In, OfType, RowOf}
 use Rattle.predicate.specs.Accepted.{Pattern, Fine}
 use Rattle.statistics.specs.declared.Statistic.the-variants.{Least, Greatest}
 use Rattle.table.specs.declared.Known.{Known}
 use Rattle.table.specs.declared.Known.the-variants.{False as NoMatch, True as Unhandled, Open}
 use Rattle.table.specs.Tables.{Table, always, both, against, positive, differ, holds, negation, unhandled, known, knownBool, folds, folded, joined}
-use Rattle.table.specs.Comparisons.{Turned, asks, stays, turned, turnedForm, boundedForm, patternPrefix, patternUpper, likeTable, hasBlanks, hasValues}
-use Rattle.table.specs.Rewriting.{constantTable, notTable, comparisonTable, listOperator, listJoining, membersTable, nestedTable, listTable, rewritten}
+use Rattle.table.specs.Comparisons.{Turned, asks, stays, turned, turnedForm, boundedForm, likeTable, hasBlanks, hasValues}
+use Rattle.table.specs.Rewriting.{constantTable, notTable, comparisonTable, listOperator, listJoining, membersTable, nestedTable, rewritten}
 use Rattle.table.specs.Worth.{Cells, worth}
 use Rattle.table.specs.Fitting.{Bounds, FitCells}
 use Rattle.table.specs.Turning.{turned-means}

@@ -1,21 +1,18 @@
 -- A comparison whose literal was turned to the right and whose flips were taken off says the same of a row's value. Assumes nothing.
 use mathlib.Core.Path.{_≡_, refl, sym, _∙_, ap}
-use mathlib.Core.Bool.{Bool, true, false, cond, not, _||_}
-use mathlib.Core.List.{List}
+use mathlib.Core.Bool.{Bool, true, false, cond, not}
 use Prim.Native.Nat.{ℕ, zero, suc}
 use native.Mathlib.Omega.{arith}
 use lib.Dec.{eqb}
-use lib.IntN.{ℤ, negℤ}
 use borrow.Author.Tests.{eqb-true, lt-ltb}
 use Rattle.operators.specs.Operators.{swapOf}
 use Rattle.operators.specs.declared.Operator.{Operator}
 use Rattle.operators.specs.declared.Operator.the-variants.{Equal, NotEqual, Below, AtMost, Above, AtLeast, Distinct, NotDistinct}
-use Rattle.kleene.specs.declared.Truth.{Truth}
-use Rattle.kleene.specs.declared.Truth.the-variants.{Unknown, True}
+use Rattle.kleene.specs.declared.Truth.the-variants.{True}
 use Rattle.kleene.specs.Truths.{truthOf}
 use Rattle.kleene.specs.TruthLaws.{unknown-true}
 use Rattle.literals.specs.Signed.{negated, negated-is}
-use Rattle.literals.specs.Literals.{Value, null, int, text, truth, integerType, textType, truthType}
+use Rattle.literals.specs.Literals.{Value, null, int, text, truth, integerType, truthType}
 use Rattle.literals.specs.declared.Negated.{Negated}
 use Rattle.literals.specs.declared.Negated.the-variants.{To, Unhandled}
 use Rattle.orders.specs.Values.{orderOf, byOrder, compared, comparedFrom}

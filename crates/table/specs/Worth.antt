@@ -1,5 +1,4 @@
 -- What a table is worth on a container's cells. Assumes nothing.
-use Prim.Native.Nat.{ℕ}
 use lib.IntN.{pos}
 use Rattle.operators.specs.declared.Operator.the-variants.{NotEqual, Above}
 use Rattle.kleene.specs.declared.Truth.{Truth}

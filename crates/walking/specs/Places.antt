@@ -12,7 +12,6 @@ use Rattle.words.specs.Word.{wordsOf}
 use Rattle.words.specs.WordLaws.{length-words}
 use Rattle.operators.specs.Operators.{operatorOf}
 use Rattle.kleene.specs.declared.Truth.the-variants.{False, Unknown}
-use Rattle.kleene.specs.declared.Joining.{Joining}
 use Rattle.kleene.specs.declared.Joining.the-variants.{And, Or}
 use Rattle.literals.specs.Literals.{literalOf}
 use Rattle.predicate.specs.Nodes.{kindOf, operatorField, columnOf, flipsOf, firstField, countOf, constantOf, orEqual, negatedOf, nodeOf}

@@ -4,7 +4,7 @@ ghost use Prim.Native.Nat.{_+_, _*_, _≤_, _<_};
 ghost use lib.ListN.{length, getD, take, drop};
 ghost use lib.Seq.{sets};
 ghost use Rattle.words.specs.Word.{ofBytes, wordAt, wordBytes, wordsOf, rangeOf};
-ghost use Rattle.words.specs.Pools.{Inside, operandOf, OperandInside};
+ghost use Rattle.words.specs.Pools.{Cut, Inside, operandOf, OperandInside};
 ghost use Rattle.words.specs.Bytes.{byteOrder};
 
 // How two values compare.
@@ -140,6 +140,22 @@ pub fn copy_part(from: &[u8], at: usize, len: usize, out: &mut [u8], to: usize)
         out[to + j] = from[at + j];
         j += 1;
     }
+}
+
+// A range cut to what a pool has.
+pub fn clip(pool: &[u8], r: Range) -> Range
+    ensures { λ k. ⌜ Cut (now (pool .entry)) r k ⌝ }
+{
+    let at = r.at;
+    let len = r.len;
+    if pool.len() <= at {
+        return Range { at: 0, len: 0 };
+    }
+    let rest = pool.len() - at;
+    if rest < len {
+        return Range { at, len: rest };
+    }
+    r
 }
 
 // The bytes that a range names, lent out of their pool.

@@ -1,14 +1,14 @@
 -- Nodes of one word, a literal's bytes, and a statistic against a literal. Assumes nothing.
-use mathlib.Core.Path.{_≡_, refl, sym, ap, _∙_}
+use mathlib.Core.Path.{_≡_, refl, ap, _∙_}
 use mathlib.Core.Bool.{Bool}
 use mathlib.Core.List.{List, [], _∷_}
 use Prim.Native.Nat.{ℕ, _+_, _-_, _^_, _≤_, _<_}
 use native.Mathlib.Nat.{add-zero}
 use native.Mathlib.Omega.{arith}
-use lib.ListN.{length, drop, length-drop, drop-of-length-le}
-use lib.Seq.{length-sets, length-take-le, take-nil, take-all}
+use lib.ListN.{length, drop, length-drop}
+use lib.Seq.{length-sets, length-take-le}
 use Rattle.words.specs.Word.{rangeOf}
-use Rattle.words.specs.Pools.{Inside}
+use Rattle.words.specs.Pools.{Inside, Cut}
 use Rattle.words.specs.declared.Range.{Range}
 use Rattle.operators.specs.Operators.{codeOf}
 use Rattle.operators.specs.declared.Operator.{Operator}
@@ -21,7 +21,7 @@ use Rattle.table.specs.Encoding.{tableWord, againstKind, poolOf, tableWords}
 use Rattle.table.specs.Measures.{tableWidth}
 use Rattle.writing.specs.declared.Spot.{Spot}
 use Rattle.writing.specs.WritingLaws.{spots, words-then}
-use Rattle.writing.specs.Writing.{Wide, Room, Cut, Clipped, Head, Put, Wrote}
+use Rattle.writing.specs.Writing.{Wide, Room, Clipped, Head, Put, Wrote}
 
 -- a node of one word
 pub wrote-leaf : (t : Table) (list : List Statistic) (w : ℕ) (s r : Spot) (old new pool : List ℕ) → tableWords list (s .off) t ≡ w ∷ []
@@ -58,25 +58,6 @@ module _ (o : Operator) (x : Statistic) (first : Bool) (v : Value) (s t : Spot) 
         }
 
 -- ---- ranges cut to what a pool has
-
-cut-past : (pool : List ℕ) (r : Range) → length pool ≤ r .at → rangeOf pool r ≡ []
-cut-past pool r h = rw (drop-of-length-le pool h) (take-nil (r .len))
-
-pub cut-none : (pool : List ℕ) (r : Range) → length pool ≤ r .at → Cut pool r (record { at = 0; len = 0 })
-cut-none pool r h = record { same = sym (cut-past pool r h); inside = omega arith; short = omega arith }
-
-pub cut-rest : (pool : List ℕ) (r : Range) → r .at < length pool → length pool - r .at < r .len
-    → Cut pool r (record { at = r .at; len = length pool - r .at })
-cut-rest pool r h k =
-    let l : length (drop (r .at) pool) ≡ length pool - r .at = length-drop (r .at) pool in
-    record {
-      same = take-all (length pool - r .at) (drop (r .at) pool) (omega arith) ∙ sym (take-all (r .len) (drop (r .at) pool) (omega arith));
-      inside = omega arith;
-      short = omega arith;
-    }
-
-pub cut-whole : (pool : List ℕ) (r : Range) → r .at < length pool → r .len ≤ length pool - r .at → Cut pool r r
-cut-whole pool r h k = record { same = refl; inside = omega arith; short = omega arith }
 
 pub clip-text : (pool : List ℕ) (r k : Range) → LiteralFits (Text r) → Cut pool r k → Clipped pool (Text r) (Text k)
 clip-text pool r k h c =

@@ -4,9 +4,7 @@ use mathlib.Core.List.{List}
 use Prim.Native.Nat.{ℕ, _+_, _*_, _^_, _≤_, _<_}
 use lib.ListN.{length}
 use lib.Seq.{sets}
-use Rattle.words.specs.Word.{bytesOf, rangeOf}
-use Rattle.words.specs.Pools.{Inside}
-use Rattle.words.specs.declared.Range.{Range}
+use Rattle.words.specs.Word.{bytesOf}
 use Rattle.literals.specs.Literals.{valueOf, LiteralFits, LiteralInside}
 use Rattle.literals.specs.declared.Literal.{Literal}
 use Rattle.statistics.specs.declared.Statistic.{Statistic}
@@ -29,12 +27,6 @@ pub record Room (t : Table) (s : Spot) (table pool : List ℕ) : Type 0 where
 pub record Ready (pool : List ℕ) (l : Literal) : Type 0 where
   pub inside : LiteralInside pool l
   pub fits : LiteralFits l
-
--- k names the same bytes as r, and only bytes that the pool has
-pub record Cut (pool : List ℕ) (r k : Range) : Type 0 where
-  pub same : rangeOf pool k ≡ rangeOf pool r
-  pub inside : Inside pool k
-  pub short : k .len ≤ r .len
 
 -- k has the same value as l, and its text is inside the pool
 pub record Clipped (pool : List ℕ) (l k : Literal) : Type 0 where

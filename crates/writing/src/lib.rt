@@ -19,7 +19,7 @@ ghost use Rattle.table.specs.Comparisons.{hasBlanks, hasValues};
 ghost use Rattle.table.specs.Rewriting.{columnTable, notColumnTable};
 ghost use Rattle.table.specs.Encoding.{tableWord};
 ghost use Rattle.listing.specs.Listing.{listOf, Few};
-ghost use Rattle.writing.specs.Writing.{Wide, Room, Ready, Cut, Clipped, Head, Put, Wrote};
+ghost use Rattle.writing.specs.Writing.{Wide, Room, Ready, Clipped, Head, Put, Wrote};
 ghost use Rattle.writing.specs.WritingLaws.{joinWord, notWord, wrapWords};
 
 // How far writing has come: words of the table, bytes of the pool.
@@ -223,22 +223,6 @@ fn put_literal(input: &[u8], l: Literal, table: &mut [u8], pool: &mut [u8], s: S
     Spot { to, off: end }
 }
 
-// A range cut to what a pool has.
-fn clip_range(input: &[u8], r: Range) -> Range
-    ensures { λ k. ⌜ Cut (now (input .entry)) r k ⌝ }
-{
-    let at = r.at;
-    let len = r.len;
-    if input.len() <= at {
-        return Range { at: 0, len: 0 };
-    }
-    let rest = input.len() - at;
-    if rest < len {
-        return Range { at, len: rest };
-    }
-    r
-}
-
 // A literal whose text is cut to what a pool has.
 fn clip(input: &[u8], l: Literal) -> Literal
     requires { ⌜ LiteralFits l ⌝ }
@@ -247,7 +231,7 @@ fn clip(input: &[u8], l: Literal) -> Literal
     match l {
         Literal::Null => l,
         Literal::Int(_) => l,
-        Literal::Text(r) => Literal::Text(clip_range(input, r)),
+        Literal::Text(r) => Literal::Text(words::clip(input, r)),
         Literal::Truth(_) => l,
     }
 }

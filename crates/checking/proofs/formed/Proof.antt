@@ -1,6 +1,6 @@
 -- Each test decides its part of the definition. Assumes nothing.
 use borrow.Author.Needs.{needs}
-use mathlib.Core.Path.{_≡_, sym, _∙_}
+use mathlib.Core.Path.{sym, _∙_}
 use borrow.Author.Tests.{lt-ltb, le-ltb, not-true, not-false}
 use Rattle.predicate.specs.Checking.{formed}
 use Rattle.checking.proofs.formed.Statement.{statement}

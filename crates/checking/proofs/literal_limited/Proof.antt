@@ -5,7 +5,6 @@ use Prim.Native.Nat.{_+_}
 use native.Mathlib.Omega.{arith}
 use borrow.Author.Tests.{le-leb, lt-leb}
 use Rattle.limits.specs.Limits.{maxAllLiteralBytes}
-use Rattle.literals.specs.Literals.{lengthOf}
 use Rattle.checking.proofs.Laws.{room-left}
 use Rattle.checking.proofs.literal_limited.Statement.{statement}
 use Rattle.checking.proofs.literal_limited.Tie as tie

@@ -1,6 +1,5 @@
 -- A literal on the left swaps the operator. Assumes nothing.
 use borrow.Author.Needs.{needs}
-use mathlib.Core.Path.{_≡_, sym, ap, _∙_}
 use denote.Ref.{now}
 use Rattle.literals.specs.Literals.{valueOf}
 use Rattle.comparing.specs.Comparing.{asks-order, asks-first}

@@ -1,6 +1,5 @@
 -- An order is asked; apart is unknown. Assumes nothing.
 use borrow.Author.Needs.{needs}
-use mathlib.Core.Path.{_≡_}
 use Rattle.comparing.proofs.by_order.Statement.{statement}
 use Rattle.comparing.proofs.by_order.Tie as tie
 

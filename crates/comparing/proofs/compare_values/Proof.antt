@@ -1,6 +1,6 @@
 -- Values of one type by its order, others apart. Assumes nothing.
 use borrow.Author.Needs.{needs}
-use mathlib.Core.Path.{_≡_, sym, ap, _∙_}
+use mathlib.Core.Path.{ap, _∙_}
 use mathlib.Core.Option.{some}
 use borrow.Author.Needs.{sfits-of}
 use mir.Syntax.{w64}

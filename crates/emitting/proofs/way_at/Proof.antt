@@ -1,10 +1,9 @@
 -- A join's way is that of its sides; every other node is a leaf. Assumes nothing.
 use borrow.Author.Needs.{needs}
-use mathlib.Core.Path.{_≡_, sym, _∙_}
+use mathlib.Core.Path.{sym, _∙_}
 use denote.Ref.{now}
 use Rattle.walking.specs.Places.{near-first, near-second}
 use Rattle.predicate.specs.Predicates.{read-node}
-use Rattle.predicate.specs.declared.Node.the-variants.{Join}
 use Rattle.emitting.proofs.Laws.{some-depth}
 use Rattle.emitting.proofs.way_at.Statement.{statement}
 use Rattle.emitting.proofs.way_at.Tie as tie

@@ -1,15 +1,12 @@
 -- Where the node was read, the predicate is the node's; then each arm. Assumes nothing.
 use borrow.Author.Needs.{needs}
 use mathlib.Core.Path.{_≡_, sym, _∙_, subst}
-use mathlib.Core.List.{List}
-use Prim.Native.Nat.{ℕ, _-_}
+use Prim.Native.Nat.{_-_}
 use denote.Ref.{now}
 use Rattle.words.specs.Word.{wordsOf}
-use Rattle.literals.specs.Literals.{LiteralFits}
-use Rattle.predicate.specs.Predicates.{Predicate, Read, nodePredicate, predicateAt, read-node}
+use Rattle.predicate.specs.Predicates.{Read, nodePredicate, predicateAt, read-node}
 use Rattle.predicate.specs.Accepted.{Fine}
 use Rattle.predicate.specs.declared.Node.{Node}
-use Rattle.predicate.specs.declared.Node.the-variants.{Comparison}
 use Rattle.listing.specs.Listing.{listOf}
 use Rattle.table.specs.Rewriting.{rewritten}
 use Rattle.writing.specs.Writing.{Room}

@@ -1,10 +1,10 @@
 -- Where the node was read, the predicate is the node's; then each arm. Assumes nothing.
 use borrow.Author.Needs.{needs}
-use mathlib.Core.Path.{_≡_, sym, _∙_, subst}
+use mathlib.Core.Path.{_≡_, sym, _∙_}
 use Prim.Native.Nat.{_-_}
 use denote.Ref.{now}
 use Rattle.words.specs.Word.{wordsOf}
-use Rattle.predicate.specs.Predicates.{Predicate, nodePredicate, predicateAt, read-zero, read-node}
+use Rattle.predicate.specs.Predicates.{nodePredicate, predicateAt, read-zero, read-node}
 use Rattle.predicate.specs.declared.Node.{Node}
 use Rattle.emitting.proofs.write_not.Statement.{statement}
 use Rattle.emitting.proofs.write_not.Tie as tie

@@ -1,7 +1,7 @@
 -- The whole is raised as the characters before end are. Assumes nothing.
 use borrow.Author.Needs.{needs}
-use mathlib.Core.Path.{_≡_, sym, _∙_}
-use Prim.Native.Nat.{ℕ, _≤_}
+use mathlib.Core.Path.{sym, _∙_}
+use Prim.Native.Nat.{_≤_}
 use lib.ListN.{length}
 use Rattle.text.specs.Upper.{rule}
 use Rattle.increment.proofs.Last.{Front, from-end, found, onward, finished}

@@ -1,6 +1,6 @@
 -- Each range that c is not in and the one that it is in pick the case. Assumes nothing.
 use borrow.Author.Needs.{needs}
-use mathlib.Core.Path.{_≡_, sym, _∙_}
+use mathlib.Core.Path.{sym, _∙_}
 use Rattle.text.specs.Increment.{allowed}
 use Rattle.increment.proofs.is_valid_unicode.Statement.{statement}
 use Rattle.increment.proofs.is_valid_unicode.Tie as tie

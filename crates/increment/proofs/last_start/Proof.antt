@@ -1,7 +1,7 @@
 -- The walk from the last byte leads where the walk from i leads. Assumes nothing.
 use borrow.Author.Needs.{needs}
 use mathlib.Core.Path.{_≡_, refl, sym, _∙_}
-use Prim.Native.Nat.{ℕ, _-_, _<_}
+use Prim.Native.Nat.{_-_, _<_}
 use Rattle.increment.specs.Walk.{startAt}
 use Rattle.increment.proofs.Walk.{start-stops, start-goes, start-zero}
 use Rattle.increment.proofs.last_start.Statement.{statement}

@@ -1,6 +1,6 @@
 -- The rule by its test. Assumes nothing.
 use borrow.Author.Needs.{needs}
-use mathlib.Core.Path.{_≡_, sym, _∙_}
+use mathlib.Core.Path.{sym, _∙_}
 use Rattle.increment.proofs.Rule.{next-to, next-none}
 use Rattle.increment.proofs.next_char.Statement.{statement}
 use Rattle.increment.proofs.next_char.Tie as tie

@@ -1,6 +1,6 @@
 -- The prefix, then its increment where a wildcard is left. Assumes nothing.
 use borrow.Author.Needs.{needs}
-use mathlib.Core.Path.{_≡_, sym, _∙_, ap}
+use mathlib.Core.Path.{sym, _∙_, ap}
 use lib.ListN.{length}
 use Rattle.increment.proofs.Bound.{ready, whole, risen}
 use Rattle.increment.proofs.upper_bound.Statement.{statement}

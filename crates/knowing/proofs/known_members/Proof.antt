@@ -2,7 +2,6 @@
 use borrow.Author.Needs.{needs}
 use mathlib.Core.Path.{_≡_, sym, _∙_}
 use Prim.Native.Nat.{_+_, _-_, _≤_}
-use denote.Ref.{now}
 use Rattle.words.specs.Word.{wordsOf}
 use Rattle.predicate.specs.Predicates.{valuesAt}
 use Rattle.table.specs.Tables.{known}

@@ -4,8 +4,7 @@ use native.Mathlib.Omega.{arith}
 use mathlib.Core.Path.{refl}
 use denote.Ref.{now}
 use Rattle.text.specs.Upper.{prefix-length}
-use Rattle.table.specs.Comparisons.{wrapped, likeForm}
-use Rattle.patterns.proofs.Laws.{prefix-end, prefix-fits, prefix-is, prefix-count}
+use Rattle.patterns.proofs.Laws.{prefix-fits, prefix-is, prefix-count}
 use Rattle.patterns.proofs.write_between.Statement.{statement}
 use Rattle.patterns.proofs.write_between.Tie as tie
 

@@ -1,6 +1,5 @@
 -- The two words at the place, both 0 past the end. Assumes nothing.
 use borrow.Author.Needs.{needs}
-use mathlib.Core.Path.{_≡_, sym, _∙_}
 use Prim.Native.Nat.{_+_}
 use native.Mathlib.Omega.{arith}
 use Rattle.words.specs.WordLaws.{words-past}

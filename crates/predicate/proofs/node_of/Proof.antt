@@ -1,9 +1,9 @@
 -- Each kind reads its own place of the list, and a kind past all arms is past the list's end. Assumes nothing.
 use borrow.Author.Needs.{needs}
-use mathlib.Core.Path.{_≡_, sym, _∙_}
+use mathlib.Core.Path.{sym, _∙_}
 use Prim.Native.Nat.{zero-le}
 use Rattle.words.specs.Arms.{next}
-use Rattle.predicate.specs.Nodes.{nodeOf, kindOf}
+use Rattle.predicate.specs.Nodes.{nodeOf}
 use Rattle.predicate.specs.KindLaws.{node-unknown}
 use Rattle.predicate.proofs.node_of.Statement.{statement}
 use Rattle.predicate.proofs.node_of.Tie as tie

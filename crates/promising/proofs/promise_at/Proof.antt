@@ -1,6 +1,6 @@
 -- Each node by its own clause. Assumes nothing.
 use borrow.Author.Needs.{needs}
-use mathlib.Core.Path.{_≡_, sym, _∙_}
+use mathlib.Core.Path.{sym, _∙_}
 use Rattle.promising.proofs.promise_at.Statement.{statement}
 use Rattle.promising.proofs.promise_at.Tie as tie
 

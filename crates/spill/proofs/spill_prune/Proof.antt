@@ -1,10 +1,7 @@
 -- A refusal writes nothing; else every container's flag is written. Assumes nothing.
 use borrow.Author.Needs.{needs}
-use mathlib.Core.Path.{_≡_, refl, sym, _∙_}
-use denote.Ref.{now}
-use lib.ListN.{length}
-use Rattle.spill.specs.Prune.{Call, pruneFault}
-use Rattle.spill.specs.Pruning.{callOf, passed, fits, flagged-refused, flagged-done}
+use mathlib.Core.Path.{refl, sym, _∙_}
+use Rattle.spill.specs.Pruning.{passed, fits, flagged-refused, flagged-done}
 use Rattle.spill.proofs.spill_prune.Statement.{statement}
 use Rattle.spill.proofs.spill_prune.Tie as tie
 

@@ -1,6 +1,6 @@
 -- A refusal writes nothing; else the four outputs are written. Assumes nothing.
 use borrow.Author.Needs.{needs}
-use mathlib.Core.Path.{_≡_, refl, sym, _∙_}
+use mathlib.Core.Path.{sym, _∙_}
 use denote.Ref.{now}
 use Rattle.spill.specs.Rewriting.{buffersOf, rewrote-refused, rewrote-done}
 use Rattle.spill.proofs.spill_rewrite.Statement.{statement}

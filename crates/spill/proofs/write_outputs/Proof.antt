@@ -1,12 +1,11 @@
 -- An accepted call has room for all that it writes, and its statistics are read back as they were listed. Assumes nothing.
 use borrow.Author.Needs.{needs}
-use mathlib.Core.Path.{_≡_, refl}
+use mathlib.Core.Path.{_≡_}
 use native.Mathlib.Omega.{arith}
 use denote.Ref.{now}
 use Rattle.predicate.specs.Calls.{rewriteFault}
-use Rattle.spill.specs.Bounds.{Taken}
 use Rattle.spill.specs.Done.{Buffers}
-use Rattle.spill.specs.Rewriting.{buffersOf, roomsOf, accepted, front, front-list, front-few, front-fits, front-count, roomy, promised, counts, rewrote-outputs}
+use Rattle.spill.specs.Rewriting.{buffersOf, roomsOf, accepted, front-list, front-few, front-fits, front-count, roomy, promised, counts, rewrote-outputs}
 use Rattle.spill.proofs.write_outputs.Statement.{statement}
 use Rattle.spill.proofs.write_outputs.Tie as tie
 

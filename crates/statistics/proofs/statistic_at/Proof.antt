@@ -1,11 +1,7 @@
 -- A word of the list, or past its end. Assumes nothing.
 use borrow.Author.Needs.{needs}
-use mathlib.Core.Path.{_≡_, sym, ap, _∙_}
-use Prim.Native.Nat.{_≤_, _<_}
-use lib.ListN.{length}
-use Rattle.words.specs.Word.{wordsOf}
+use mathlib.Core.Path.{sym}
 use Rattle.words.specs.WordLaws.{length-words, words-at}
-use Rattle.statistics.specs.Statistics.{statisticOf}
 use Rattle.statistics.specs.Reading.{read-at, read-past}
 use Rattle.statistics.proofs.statistic_at.Statement.{statement}
 use Rattle.statistics.proofs.statistic_at.Tie as tie

@@ -1,6 +1,6 @@
 -- What is_utf8 accepts is UTF-8. Assumes nothing.
 use borrow.Author.Needs.{needs}
-use mathlib.Core.Path.{_≡_, sym, _∙_}
+use mathlib.Core.Path.{sym, _∙_}
 use native.Mathlib.Omega.{arith}
 use Rattle.text.specs.Valid.{utf8-iff}
 use Rattle.textcases.proofs.run.Statement.{statement}

@@ -17,7 +17,7 @@ returns-2 c =
 returns-3 : tie.Need-returns-3
 returns-3 c =
     let start = c .before .before .before .before .before in
-    rw (c .before .before .l .given .1) (clip-text (now (start .args .input)) (c .before .before .l .given .0 .0) _ (rw (c .before .before .l .given .1) at (start .pre)) (c .clip-range .ensures))
+    rw (c .before .before .l .given .1) (clip-text (now (start .args .input)) (c .before .before .l .given .0 .0) _ (rw (c .before .before .l .given .1) at (start .pre)) (c .clip .ensures))
 
 returns-4 : tie.Need-returns-4
 returns-4 c =
