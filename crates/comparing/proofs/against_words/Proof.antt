@@ -1,7 +1,6 @@
 -- Two integers at once, or any two literals. Assumes nothing.
 use borrow.Author.Needs.{needs}
-use mathlib.Core.Path.{_≡_, sym, _∙_}
-use mathlib.Core.Bool.{true}
+use mathlib.Core.Path.{sym, _∙_}
 use Prim.Native.Nat.{_/_, _^_}
 use mir.Syntax.{w64}
 use mir.ValLaws.{toZ-ofZ}

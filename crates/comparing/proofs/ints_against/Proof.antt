@@ -2,7 +2,7 @@
 use borrow.Author.Needs.{needs}
 use mir.Syntax.{w64}
 use mir.ValLaws.{toZ-ofZ}
-use mathlib.Core.Path.{_≡_, _∙_}
+use mathlib.Core.Path.{_∙_}
 use Rattle.comparing.specs.Comparing.{ints-after, ints-first}
 use Rattle.comparing.proofs.ints_against.Statement.{statement}
 use Rattle.comparing.proofs.ints_against.Tie as tie
