@@ -1,11 +1,9 @@
 -- What is left of the columns is fine or not. Assumes nothing.
 use borrow.Author.Needs.{needs}
 use native.Mathlib.Omega.{arith}
-use mathlib.Core.Path.{_≡_, refl, sym, ap, _∙_}
-use Prim.Native.Nat.{ℕ, _-_, _+_, _*_, _/_, _≤_, _<_}
+use mathlib.Core.Path.{_≡_, refl, sym, _∙_}
+use Prim.Native.Nat.{_-_, _/_, _≤_}
 use lib.ListN.{length}
-use Rattle.words.specs.Word.{wordsOf}
-use Rattle.cells.specs.Grids.{listOf, length-list}
 use Rattle.cells.specs.Columns.{columnsFrom, columns-end, columns-faulty, columns-next, columns-all}
 use Rattle.cells.proofs.columns_fine.Statement.{statement}
 use Rattle.cells.proofs.columns_fine.Tie as tie

@@ -2,7 +2,7 @@
 use borrow.Author.Needs.{needs}
 use native.Mathlib.Omega.{arith}
 use mathlib.Core.Path.{_≡_, refl, sym, _∙_}
-use Prim.Native.Nat.{ℕ, _-_, _+_, _*_, _/_, _≤_, _<_}
+use Prim.Native.Nat.{_-_, _+_, _*_, _/_, _≤_}
 use lib.ListN.{length}
 use Rattle.literals.specs.Literals.{integerType}
 use Rattle.cells.specs.Columns.{columnFrom, column-end, column-faulty, column-next, column-room}

@@ -10,7 +10,7 @@ use Rattle.words.specs.WordLaws.{length-words}
 use Rattle.pruning.specs.TableReading.{tableNodeAt}
 use Rattle.evaluating.specs.declared.Step.{Step}
 use Rattle.evaluating.specs.Ready.{ready-deep, ready-inside}
-use Rattle.evaluating.specs.Steps.{stepOf, Evaluable, leaf-short, ready-asks, leaf-worth, both-left, both-right, both-worth, both-settled, turned-child, turned-worth}
+use Rattle.evaluating.specs.Steps.{stepOf, leaf-short, ready-asks, leaf-worth, both-left, both-right, both-worth, both-settled, turned-child, turned-worth}
 use borrow.Fn.Kinds.{In}
 use borrow.Fn.PlainCycle.{Measures, is, falls, and}
 use Rattle.evaluating.proofs.worth_at.Reads as worth-at

@@ -1,6 +1,5 @@
 -- Each field of the word, the cell and the literal. Assumes nothing.
 use borrow.Author.Needs.{needs}
-use mathlib.Core.Path.{_≡_, sym, _∙_}
 use Rattle.evaluating.proofs.against_at.Statement.{statement}
 use Rattle.evaluating.proofs.against_at.Tie as tie
 

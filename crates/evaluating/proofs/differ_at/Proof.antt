@@ -1,6 +1,6 @@
 -- The counts at both places. Assumes nothing.
 use borrow.Author.Needs.{needs}
-use mathlib.Core.Path.{_≡_, sym, _∙_}
+use mathlib.Core.Path.{_∙_}
 use Rattle.evaluating.proofs.differ_at.Statement.{statement}
 use Rattle.evaluating.proofs.differ_at.Tie as tie
 

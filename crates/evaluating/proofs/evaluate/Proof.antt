@@ -1,6 +1,5 @@
 -- From the root, with the whole depth. Assumes nothing.
 use borrow.Author.Needs.{needs}
-use mathlib.Core.Path.{_≡_}
 use denote.Ref.{now}
 use Rattle.cells.specs.Grids.{listOf}
 use Rattle.evaluating.proofs.evaluate.Statement.{statement}

@@ -1,6 +1,6 @@
 -- A word of the list. Assumes nothing.
 use borrow.Author.Needs.{needs}
-use mathlib.Core.Path.{_≡_, sym, _∙_}
+use mathlib.Core.Path.{sym, _∙_}
 use Rattle.words.specs.WordLaws.{words-at}
 use Rattle.evaluating.proofs.node_word.Statement.{statement}
 use Rattle.evaluating.proofs.node_word.Tie as tie

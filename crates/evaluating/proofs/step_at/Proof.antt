@@ -1,6 +1,6 @@
 -- The kind picks the law of its case. Assumes nothing.
 use borrow.Author.Needs.{needs}
-use mathlib.Core.Path.{_≡_, sym, _∙_}
+use mathlib.Core.Path.{sym, _∙_}
 use Prim.Native.Nat.{zero-le, _+_}
 use denote.Ref.{now}
 use lib.ListN.{getD}
