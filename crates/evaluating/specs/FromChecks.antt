@@ -5,7 +5,7 @@ use mathlib.Core.List.{List, [], _∷_}
 use Prim.Native.Nat.{ℕ, zero, suc, _+_, _%_, _^_, _≤_, _<_}
 use native.Mathlib.Omega.{arith}
 use lib.ListN.{length, getD}
-use lib.Dec.{eqb, leb, ltb, lit<}
+use lib.Dec.{eqb, leb, ltb}
 use borrow.Author.Tests.{eqb-true, eqb-false, leb-true, ltb-true, le-ltb, eq-eqb, not-true}
 use Rattle.limits.specs.Limits.{maxTableDepth, tableRoom, tablePoolRoom, statisticsRoom, guaranteesRoom}
 use Rattle.words.specs.Layout.{packed}
@@ -28,7 +28,7 @@ use Rattle.statistics.specs.declared.Statistic.the-variants.{Least, Greatest, B
 use Rattle.predicate.specs.declared.Column.{Column}
 use Rattle.pruning.specs.TableReading.{kindOf, operatorField, firstField, secondField, literalFirstField, firstOf, secondOf, statisticAt, tableNodeOf, nodeTable, tableNodeAt, tableAt}
 use Rattle.pruning.specs.TableReading as Reading
-use Rattle.pruning.specs.TableChecking.{statisticFine, standsIn, statisticsFine, guaranteesFine, tableShapeOf, tableFormed, isBound, isBlanks, isRows, named, boundType, tableLiteral, tableNamed, tableNodeFine, tableBehind, thenAt, checkTableFrom, ends, tableFine, wordsWithin, checkedTable}
+use Rattle.pruning.specs.TableChecking.{statisticFine, standsIn, statisticsFine, guaranteesFine, tableShapeOf, tableFormed, isBound, isBlanks, isRows, named, tableNamed, tableNodeFine, tableBehind, thenAt, checkTableFrom, ends, tableFine, wordsWithin, checkedTable}
 use Rattle.pruning.specs.declared.TableNode.{TableNode}
 use Rattle.pruning.specs.declared.TableNode.the-variants.{Always, Join, Against, Positive, Differ, Holds, Negation}
 use Rattle.pruning.specs.declared.Reached.{Reached}

@@ -1,12 +1,12 @@
 -- A container's cells as a row of words, in the order of the statistics list. Assumes nothing.
-use mathlib.Core.Path.{_≡_, refl, sym, ap, _∙_}
-use mathlib.Core.Bool.{Bool, true, false, true≢false, cond}
+use mathlib.Core.Path.{_≡_, refl, sym, _∙_}
+use mathlib.Core.Bool.{Bool, true, true≢false, cond}
 use mathlib.Core.List.{List}
 use Prim.Native.Nat.{ℕ, _<_}
 use lib.ListN.{length, getD}
 use lib.Dec.{ltb}
 use borrow.Author.Tests.{lt-ltb}
-use Rattle.literals.specs.Literals.{Value, null, valueAt}
+use Rattle.literals.specs.Literals.{null, valueAt}
 use Rattle.statistics.specs.Statistics.{placeOf}
 use Rattle.statistics.specs.ListLaws.{Distinct, place-at}
 use Rattle.statistics.specs.declared.Place.{Place}

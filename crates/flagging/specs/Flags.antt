@@ -1,22 +1,18 @@
 -- The flags of containers, one after the other, each by its own row of the grid and its own answers. Assumes nothing.
-use mathlib.Core.Path.{_≡_, refl, sym, ap, fun-ext, _∙_}
-use mathlib.Core.Bool.{Bool, true, false, cond, _||_}
+use mathlib.Core.Path.{_≡_, refl, sym, ap, _∙_}
+use mathlib.Core.Bool.{Bool, true, false, _||_}
 use mathlib.Core.List.{List, [], _∷_, _++_}
-use Prim.Native.Nat.{ℕ, zero, suc, _+_, _*_, _-_, _/_, _^_, _≤_, _<_}
-use native.Mathlib.Nat.{suc-mul, mul-le-mul-right, mul-left-comm, add-zero, add-sub-cancel-left}
+use Prim.Native.Nat.{ℕ, zero, suc, _+_, _*_, _-_, _/_, _≤_, _<_}
+use native.Mathlib.Nat.{suc-mul, mul-le-mul-right, add-zero, add-sub-cancel-left}
 use native.Mathlib.Numerals.{add-one}
 use native.Mathlib.Omega.{arith}
-use lib.ListN.{length, getD, take, drop, set, length-drop, drop-of-length-le}
-use lib.Seq.{sets, drop-cons, getD-take, length-take-le}
-use lib.Dec.{eqb, ltb}
-use borrow.Author.Tests.{ltb-true}
+use lib.ListN.{length, getD, take, drop, set, drop-of-length-le}
+use lib.Seq.{sets, drop-cons}
+use lib.Dec.{eqb}
 use Rattle.limits.specs.Limits.{maxContainers, maxTableDepth, guaranteesRoom}
-use Rattle.words.specs.Word.{wordAt, wordsOf}
-use Rattle.words.specs.WordLaws.{length-words, words-at, word-drop}
+use Rattle.words.specs.Word.{wordsOf}
+use Rattle.words.specs.WordLaws.{length-words}
 use Rattle.words.specs.Stores.{sets-then}
-use Rattle.statistics.specs.Statistics.{placeOf}
-use Rattle.statistics.specs.declared.Statistic.{Statistic}
-use Rattle.table.specs.Tables.{Table}
 use Rattle.table.specs.Worth.{worth}
 use Rattle.guarantees.specs.Guarantees.{answerDrops, notInField}
 use Rattle.pruning.specs.TableReading.{tableAt}

@@ -1,10 +1,10 @@
 -- What an accepted grid says of each cell, and what a cell may be. Assumes nothing.
 use mathlib.Core.Path.{_≡_, refl, sym, _∙_, ap, subst}
-use mathlib.Core.Bool.{Bool, true, false, cond, _&&_, true≢false}
-use mathlib.Core.Logic.{_⊎_, inl, inr, ⊎-elim}
+use mathlib.Core.Bool.{Bool, true, false, cond, true≢false}
+use mathlib.Core.Logic.{_⊎_, inl, inr}
 use mathlib.Core.List.{List, [], _∷_}
 use Prim.Native.Nat.{ℕ, zero, suc, _+_, _*_, _<_}
-use native.Mathlib.Nat.{add-zero, zero-add, suc-mul, add-assoc}
+use native.Mathlib.Nat.{add-zero, zero-add, suc-mul}
 use native.Mathlib.Omega.{arith}
 use lib.ListN.{length, getD}
 use lib.Dec.{eqb, ltb}
@@ -13,7 +13,7 @@ use borrow.Author.Tests.{ltb-true, lt-ltb, eq-eqb}
 use Rattle.words.specs.Tests.{and-both}
 use Rattle.words.specs.Word.{wordAt}
 use Rattle.literals.specs.Signed.{Fits64, signed-fits}
-use Rattle.literals.specs.Literals.{Value, null, int, text, truth, integerType, textType, truthType, nullType, typeOf, offsetOf, suits, plain, literalOf, valueOf, valueAt}
+use Rattle.literals.specs.Literals.{Value, null, int, integerType, nullType, typeOf, offsetOf, suits, plain, literalOf, valueOf, valueAt}
 use Rattle.literals.specs.declared.Literal.{Literal}
 use Rattle.literals.specs.declared.Literal.the-variants.{Null, Int, Text, Truth}
 use Rattle.literals.specs.LiteralLaws.{literal-null}

@@ -16,7 +16,6 @@ use Rattle.predicate.specs.Nodes.{orEqual}
 use Rattle.predicate.specs.Checking.{unusedZero}
 use Rattle.pruning.specs.TableReading.{kindOf, operatorField, firstField, secondField, literalFirstField, zeroField, firstOf, secondOf, tableNodeOf, tableNodeAt}
 use Rattle.pruning.specs.TableChecking.{TableShape, naming, tableShapeOf, tableFormed}
-use Rattle.pruning.specs.declared.TableNode.{TableNode}
 use Rattle.pruning.specs.declared.TableNode.the-variants.{Always, Join, Against, Positive, Differ, Holds, Negation}
 
 -- kinds from 8 on are unknown

@@ -1,5 +1,4 @@
 -- From the root, with the whole depth. Assumes nothing.
-use borrow.Author.Needs.{needs}
 use denote.Ref.{now}
 use Rattle.cells.specs.Grids.{listOf}
 use Rattle.evaluating.proofs.evaluate.Statement.{statement}

@@ -1,6 +1,6 @@
 -- What is left of the guarantees drops or not. Assumes nothing.
 use borrow.Author.Needs.{needs}
-use mathlib.Core.Path.{_≡_, refl, sym, _∙_}
+use mathlib.Core.Path.{_≡_, sym, _∙_}
 use Prim.Native.Nat.{_-_, _+_, _/_, _≤_}
 use native.Mathlib.Nat.{add-zero}
 use lib.ListN.{length}

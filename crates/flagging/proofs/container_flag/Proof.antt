@@ -1,6 +1,5 @@
 -- By the table's worth and by the answers. Assumes nothing.
 use borrow.Author.Needs.{needs}
-use mathlib.Core.Path.{_≡_}
 use Rattle.flagging.proofs.container_flag.Statement.{statement}
 use Rattle.flagging.proofs.container_flag.Tie as tie
 

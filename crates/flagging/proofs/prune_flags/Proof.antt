@@ -1,9 +1,9 @@
 -- After i turns the first i flags are stored. Assumes nothing.
 use borrow.Author.Needs.{needs}
 use native.Mathlib.Omega.{arith}
-use mathlib.Core.Path.{_≡_, refl, sym, ap, _∙_}
-use Prim.Native.Nat.{ℕ, _-_, _+_, _*_, _/_, _≤_, _<_}
-use native.Mathlib.Nat.{add-sub-cancel-left, le-antisymm}
+use mathlib.Core.Path.{_≡_, refl, _∙_}
+use Prim.Native.Nat.{_-_, _+_, _*_, _/_, _≤_}
+use native.Mathlib.Nat.{le-antisymm}
 use lib.ListN.{length, length-set}
 use lib.Seq.{sets}
 use Rattle.flagging.specs.Flags.{width, flagsFor, flags-none, flag-at, flag-stored, next-row, one-more, few-answers}

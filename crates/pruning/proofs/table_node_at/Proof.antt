@@ -1,6 +1,6 @@
 -- A word of the table with the word behind it, or past the end. Assumes nothing.
 use borrow.Author.Needs.{needs}
-use mathlib.Core.Path.{_≡_, sym, _∙_}
+use mathlib.Core.Path.{sym, _∙_}
 use Rattle.words.specs.WordLaws.{words-at}
 use Rattle.pruning.specs.NodeLaws.{node-past}
 use Rattle.pruning.proofs.table_node_at.Statement.{statement}

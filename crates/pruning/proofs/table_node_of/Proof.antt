@@ -1,6 +1,6 @@
 -- The kind picks its place of the list. Assumes nothing.
 use borrow.Author.Needs.{needs}
-use mathlib.Core.Path.{sym, _∙_}
+use mathlib.Core.Path.{sym}
 use Prim.Native.Nat.{zero-le}
 use Rattle.words.specs.Arms.{next}
 use Rattle.pruning.specs.TableReading.{tableNodeOf}

@@ -1,6 +1,6 @@
 -- Each test of the word has its law. Assumes nothing.
 use borrow.Author.Needs.{needs}
-use mathlib.Core.Path.{sym, _∙_}
+use mathlib.Core.Path.{sym}
 use Rattle.suiting.specs.Suiting.{fitting-none, integer-fits, integer-unfit}
 use Rattle.suiting.proofs.integer_suits.Statement.{statement}
 use Rattle.suiting.proofs.integer_suits.Tie as tie

@@ -1,7 +1,7 @@
 -- Each test of the word has its law. Assumes nothing.
 use borrow.Author.Needs.{needs}
-use mathlib.Core.Path.{_≡_, sym, _∙_}
-use Rattle.literals.specs.Literals.{textType, zeroOf}
+use mathlib.Core.Path.{sym, _∙_}
+use Rattle.literals.specs.Literals.{textType}
 use Rattle.suiting.specs.Suiting.{fitting-none, text-fits, text-unfit, field-unfit}
 use Rattle.suiting.proofs.text_suits.Statement.{statement}
 use Rattle.suiting.proofs.text_suits.Tie as tie

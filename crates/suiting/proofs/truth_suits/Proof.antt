@@ -1,6 +1,5 @@
 -- False and true are two words. Assumes nothing.
-use mathlib.Core.Path.{sym, _∙_}
-use mathlib.Core.Bool.{Bool, true, false}
+use mathlib.Core.Path.{sym}
 use Rattle.suiting.specs.Suiting.{fitting-none, truth-is}
 use Rattle.suiting.proofs.truth_suits.Statement.{statement}
 use Rattle.suiting.proofs.truth_suits.Tie as tie

@@ -1,7 +1,7 @@
 -- The type picks its test; of no other is there a word but null's. Assumes nothing.
 use borrow.Author.Needs.{needs}
-use mathlib.Core.Path.{sym, ap, _∙_}
-use Rattle.suiting.specs.Suiting.{fitting, none-is}
+use mathlib.Core.Path.{sym}
+use Rattle.suiting.specs.Suiting.{none-is}
 use Rattle.suiting.proofs.word_suits.Statement.{statement}
 use Rattle.suiting.proofs.word_suits.Tie as tie
 

@@ -1,6 +1,5 @@
 -- The first test that fails decides. Assumes nothing.
 use borrow.Author.Needs.{needs}
-use mathlib.Core.Path.{_≡_, sym, _∙_}
 use borrow.Author.Tests.{le-leb, lt-leb, not-true, not-false}
 use Rattle.pruning.specs.TableChecking.{checkedTable}
 use Rattle.tablechecks.proofs.checked_table.Statement.{statement}

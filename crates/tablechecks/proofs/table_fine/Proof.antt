@@ -1,6 +1,5 @@
 -- Checked from the root, the table ends where its words do. Assumes nothing.
 use borrow.Author.Needs.{needs}
-use mathlib.Core.Path.{_≡_, sym, ap, _∙_}
 use Rattle.words.specs.WordLaws.{length-words}
 use Rattle.pruning.specs.TableChecking.{tableFine}
 use Rattle.tablechecks.proofs.table_fine.Statement.{statement}

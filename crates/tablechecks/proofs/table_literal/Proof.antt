@@ -1,6 +1,6 @@
 -- The two tests of the word are one. Assumes nothing.
 use borrow.Author.Needs.{needs}
-use mathlib.Core.Path.{sym, ap, _∙_}
+use mathlib.Core.Path.{sym}
 use Rattle.tablechecks.specs.Naming.{literal-fits, literal-unfit}
 use Rattle.tablechecks.proofs.table_literal.Statement.{statement}
 use Rattle.tablechecks.proofs.table_literal.Tie as tie

@@ -1,6 +1,5 @@
 -- Each kind has its own test. Assumes nothing.
 use borrow.Author.Needs.{needs}
-use mathlib.Core.Path.{_≡_, sym, _∙_}
 use Rattle.tablechecks.proofs.table_named.Statement.{statement}
 use Rattle.tablechecks.proofs.table_named.Tie as tie
 

@@ -1,6 +1,5 @@
 -- The first test that fails decides. Assumes nothing.
 use borrow.Author.Needs.{needs}
-use mathlib.Core.Path.{_≡_, sym, _∙_}
 use borrow.Author.Tests.{lt-ltb, le-ltb, not-true, not-false}
 use Rattle.words.specs.WordLaws.{length-words}
 use Rattle.tablechecks.proofs.table_node_fine.Statement.{statement}
