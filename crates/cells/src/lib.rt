@@ -23,8 +23,8 @@ fn cell_type(schema: &[u8], s: Statistic) -> u8
     ensures { λ r. ⌜ r ≡ cellType (now (schema .entry)) s ⌝ }
 {
     match s {
-        Statistic::Least(c) => suiting::type_in(schema, c.0),
-        Statistic::Greatest(c) => suiting::type_in(schema, c.0),
+        Statistic::Least(c) => predicate::type_in(schema, c),
+        Statistic::Greatest(c) => predicate::type_in(schema, c),
         Statistic::Blanks(_) => Literal::INTEGER,
         Statistic::Rows => Literal::INTEGER,
     }

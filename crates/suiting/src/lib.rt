@@ -1,17 +1,8 @@
 // Literal words for a column of a type: in a table, and as cells.
 use literals::Literal;
 ghost use mathlib.Core.Path.{_≡_};
-ghost use lib.ListN.{getD};
 ghost use Rattle.literals.specs.Literals.{integerType, textType, truthType};
 ghost use Rattle.suiting.specs.Suiting.{fitting};
-
-// The type of a column; 0 where it is not in the schema.
-pub fn type_in(schema: &[u8], c: u8) -> u8
-    ensures { λ r. ⌜ r ≡ getD (now (schema .entry)) c 0 ⌝ }
-{
-    let i = c as usize;
-    if i < schema.len() { schema[i] } else { 0 }
-}
 
 // Null, or an integer's word inside the pool: its type, length and zero field are tested at once.
 pub fn integer_suits(pool: &[u8], w: u64) -> bool

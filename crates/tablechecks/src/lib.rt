@@ -1,5 +1,6 @@
 // Checked tables: all rules for a table, its statistics list and its guarantees.
 use literals::Literal;
+use predicate::Column;
 use pruning::Reached;
 use pruning::TableNode;
 use statistics::Place;
@@ -84,7 +85,7 @@ fn names_rows(list: &[u8], p: Place) -> bool
 fn bound_type(schema: &[u8], s: Statistic) -> u8
     ensures { λ r. ⌜ r ≡ boundType (now (schema .entry)) s ⌝ }
 {
-    suiting::type_in(schema, statistics::column_in(s))
+    predicate::type_in(schema, Column(statistics::column_in(s)))
 }
 
 // A literal word of a statistic's column: null or of its type, inside the pool, text up to 1,025 bytes.
