@@ -85,9 +85,11 @@ fn ordinary() {
     println!("\n### Pruning, 4,096 containers, IN of 20 integers, all statistics present\n");
     println!("| program | time | library takes |\n|---|---|---|");
     let case = variants::main_case();
+    let bad = variants::with_bad_cell(&case);
     ordinary_agree(&case);
     let mut variants = variants::pruning("", &case);
     variants.extend(variants::ordinary(&case));
+    variants.push(variants::checks(&bad));
     let times = time(&mut variants);
     let names = [
         "library",
@@ -97,6 +99,7 @@ fn ordinary() {
         "- its grid check",
         "- its evaluation",
         "loop for this grid alone, no checks",
+        "- the library's checks alone: refused at the last cell",
     ];
     for (name, taken) in names.iter().zip(&times) {
         let part = name.starts_with('-');

@@ -14,6 +14,9 @@ use crate::packed::Packed;
 use crate::shapes::{self, Present};
 use crate::timing::Variant;
 
+/// The refusal of a bad grid.
+const BAD_GRID: u64 = 9;
+
 /// Rewriting by the library and by the plain Rust.
 pub fn rewriting<'a>(name: &str, case: &'a RewriteCase) -> Vec<Variant<'a>> {
     let mut lent = Rewritten::lent(case.rooms);
@@ -73,6 +76,23 @@ pub fn ordinary(case: &PruneCase) -> Vec<Variant<'_>> {
     ]
 }
 
+/// The library on a grid whose last cell is bad: its checks, and nothing evaluated.
+pub fn checks(case: &PruneCase) -> Variant<'_> {
+    let mut flags = vec![0; case.flag_room];
+    Variant::new("prune library checks", move || {
+        let result = prune_into(prune_input(black_box(&case.call())), &mut flags);
+        assert_eq!(black_box(result), BAD_GRID);
+    })
+}
+
+/// The same call with a last cell that no type allows.
+pub fn with_bad_cell(case: &PruneCase) -> PruneCase {
+    let mut bad = case.clone();
+    let last = bad.grid.len() - 8;
+    bad.grid[last..].copy_from_slice(&1u64.to_be_bytes());
+    bad
+}
+
 /// The call that the ordinary programs are compared on.
 pub fn main_case() -> PruneCase {
     shapes::pruning(&shapes::list(20), 4_096, Present::All)
@@ -87,7 +107,9 @@ fn with_all(each: &mut dyn FnMut(&mut Variant)) {
         let case = shapes::pruning(&shape, 4_096, Present::All);
         pruning(&shape.name, &case).iter_mut().for_each(&mut *each);
     }
-    ordinary(&main_case()).iter_mut().for_each(each);
+    let case = main_case();
+    ordinary(&case).iter_mut().for_each(&mut *each);
+    each(&mut checks(&with_bad_cell(&case)));
 }
 
 pub fn names() -> Vec<String> {
