@@ -36,7 +36,7 @@ impl Project {
             fs::create_dir_all(root.join(folder)).unwrap();
         }
         let project = Project(root);
-        for file in ["crates.txt", "crates/spill/src/lib.rt", "crates/spill/must-fail/one.edit"] {
+        for file in ["crates.txt", "crates/spill/src/source.txt", "crates/spill/must-fail/one.edit"] {
             fs::write(project.0.join(file), "x").unwrap();
             project.age(file, 1000);
         }
@@ -96,11 +96,11 @@ fn an_archive_is_built_again_only_where_a_source_is_newer() {
     project.age("crates/spill/must-fail/one.edit", 100);
     project.run(&[]);
     assert_eq!(project.calls(), 1);
-    project.age("crates/spill/src/lib.rt", 100);
+    project.age("crates/spill/src/source.txt", 100);
     project.run(&[]);
     assert_eq!(project.calls(), 2);
     project.age("target/staticlib/libspill.a", 500);
-    project.age("crates/spill/src/lib.rt", 1000);
+    project.age("crates/spill/src/source.txt", 1000);
     project.age("crates.txt", 100);
     project.run(&[]);
     assert_eq!(project.calls(), 3);
