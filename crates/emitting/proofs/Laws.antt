@@ -1,23 +1,20 @@
 -- What the way of a node says of its table, and that a node's literal fits a word. Assumes nothing.
 use mathlib.Core.Path.{_≡_, refl, sym, subst, ap}
-use mathlib.Core.List.{List, [], _∷_}
+use mathlib.Core.List.{List}
 use Prim.Native.Nat.{ℕ, zero, suc, _+_, _-_, _<_}
 use native.Mathlib.Omega.{arith}
 use lib.ListN.{getD}
-use lib.Dec.{eqb}
 use Rattle.words.specs.Word.{wordsOf}
-use Rattle.operators.specs.Operators.{operatorOf}
 use Rattle.kleene.specs.declared.Truth.{Truth}
 use Rattle.kleene.specs.declared.Truth.the-variants.{False, Unknown, True}
 use Rattle.kleene.specs.declared.Joining.{Joining}
-use Rattle.kleene.specs.declared.Joining.the-variants.{And, Or}
-use Rattle.literals.specs.Literals.{literalOf, LiteralFits}
-use Rattle.predicate.specs.Nodes.{kindOf, operatorField, columnOf, flipsOf, firstField, countOf, constantOf, orEqual, negatedOf, nodeOf}
+use Rattle.literals.specs.Literals.{LiteralFits}
+use Rattle.predicate.specs.Nodes.{nodeOf}
 use Rattle.predicate.specs.Predicates.{Predicate, Read, nodeAt, nodePredicate, predicateAt, read-node}
 use Rattle.predicate.specs.Accepted.{Fine}
 use Rattle.predicate.specs.declared.Node.{Node}
 use Rattle.predicate.specs.declared.Node.the-variants.{Constant, Join, Not, TruthColumn, IsNull, IsNotNull, Comparison, List as InList, Like}
-use Rattle.walking.specs.Places.{Near, near-first, near-second}
+use Rattle.walking.specs.Places.{node-each, Near, near-first, near-second}
 use Rattle.table.specs.declared.Folded.{Folded}
 use Rattle.table.specs.declared.Folded.the-variants.{Fixed as Constantly, Left, Right, Both as Pair}
 use Rattle.table.specs.Tables.{always, both, known, folds, folded}
@@ -58,31 +55,9 @@ NodeFits (Comparison o c n b l) = LiteralFits l
 NodeFits (InList b c n k) = Unit {0}
 NodeFits (Like b c l) = Unit {0}
 
-abbrev AllFit : List Node → Type 0
-AllFit [] = Unit {0}
-AllFit (n ∷ ns) = NodeFits n × AllFit ns
-
-fits-getD : (ns : List Node) (i : ℕ) (z : Node) → AllFit ns → NodeFits z → NodeFits (getD ns i z)
-fits-getD [] i z h k = k
-fits-getD (n ∷ ns) zero z h k = h .0
-fits-getD (n ∷ ns) (suc i) z h k = fits-getD ns i z (h .1) k
-
 node-fits : (pool : List ℕ) (w l : ℕ) → NodeFits (nodeOf pool w l)
-unfolding nodeOf
 node-fits pool w l =
-    fits-getD
-    (Constant (constantOf (operatorField w))
-    ∷ Join And
-    ∷ Join Or
-    ∷ Not
-    ∷ TruthColumn (columnOf w)
-    ∷ IsNull (columnOf w)
-    ∷ IsNotNull (columnOf w)
-    ∷ Comparison (orEqual (operatorOf (operatorField w))) (columnOf w) (flipsOf w) (eqb (firstField w) 1) (literalOf pool l)
-    ∷ InList (negatedOf w) (columnOf w) (flipsOf w) (countOf w)
-    ∷ Like (negatedOf w) (columnOf w) (literalOf pool l)
-    ∷ [])
-    (kindOf w) (Constant Unknown) (tt, (tt, (tt, (tt, (tt, (tt, (tt, (literal-fits pool l, (tt, (tt, tt)))))))))) tt
+    node-each NodeFits pool w l (λ t. tt) (λ j. tt) tt (λ c. tt) (λ c. tt) (λ c. tt) (λ o c n b. literal-fits pool l) (λ b c n. tt) (λ b c. tt)
 
 pub read-fits : (pool ws : List ℕ) (at : ℕ) (n : Node) → n ≡ nodeAt pool ws at → NodeFits n
 read-fits pool ws at n e = subst NodeFits (sym e) (node-fits pool (getD ws at 0) (getD ws (at + 1) 0))

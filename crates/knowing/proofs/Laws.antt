@@ -1,23 +1,17 @@
 -- Laws of what is known, in the code's terms. Assumes nothing.
 use mathlib.Core.Path.{_≡_, sym, _∙_}
-use mathlib.Core.Bool.{Bool}
 use mathlib.Core.List.{List}
 use mathlib.Core.Option.{Option}
-use Prim.Native.Nat.{ℕ, _-_, _≤_, _<_}
-use native.Mathlib.Omega.{arith}
-use lib.ListN.{length}
-use borrow.Author.Tests.{le-leb, lt-leb}
+use Prim.Native.Nat.{ℕ, _-_}
 use Rattle.increment.specs.declared.End.{End}
 use Rattle.increment.specs.declared.End.the-variants.{Until, Absent}
 use Rattle.increment.specs.Outcome.{endOf, until-some, absent-none}
 use Rattle.operators.specs.declared.Operator.{Operator}
 use Rattle.literals.specs.declared.Literal.{Literal}
-use Rattle.predicate.specs.Predicates.{valuesAt, length-values}
 use Rattle.predicate.specs.declared.Column.{Column}
 use Rattle.table.specs.declared.Known.the-variants.{True, Open}
-use Rattle.table.specs.Tables.{Table, known}
+use Rattle.table.specs.Tables.{known}
 use Rattle.table.specs.Comparisons.{Turned as Turning, turnedForm}
-use Rattle.table.specs.Rewriting.{nestedTable, listTable}
 use Rattle.turning.specs.Turns.{turnedOf}
 use Rattle.turning.specs.declared.Turned.{Turned}
 use Rattle.turning.specs.declared.Turned.the-variants.{Against, Unhandled}
@@ -37,21 +31,3 @@ bounded-open o r n e q = rw (until-some o n (sym q ∙ e) .1)
 
 pub bounded-true : (o : Option (List ℕ)) (r : End) → r ≡ endOf o → r ≡ Absent → True ≡ knownBounded o
 bounded-true o r e q = rw (absent-none o (sym q ∙ e))
-
--- ---- lists
-
-module _ (limit : ℕ) (schema pool ws : List ℕ) (b : Bool) (c : Column) (n m at : ℕ) where
-  abbrev table : Table
-  table = listTable limit schema b c n (valuesAt pool ws m at)
-
-  -- no literal
-  pub list-none : m ≡ 0 → True ≡ known table
-  unfolding valuesAt
-  list-none e = rw (e, le-leb 0 limit (omega arith))
-
-  -- over the limit
-  pub list-over : limit < m → True ≡ known table
-  list-over h = let k : limit < length (valuesAt pool ws m at) = rw length-values h in rw (lt-leb _ _ k)
-
-  pub list-within : m ≤ limit → known table ≡ known (nestedTable schema b c n (valuesAt pool ws m at))
-  list-within h = let k : length (valuesAt pool ws m at) ≤ limit = rw length-values h in rw (le-leb _ _ k)

@@ -6,19 +6,20 @@ use mathlib.Core.Option.{Option, some, none}
 use Prim.Native.Nat.{ℕ, zero, suc, _+_, _-_, _≤_, _<_}
 use native.Mathlib.Numerals.{sub-one}
 use native.Mathlib.Omega.{arith}
-use lib.ListN.{getD}
+use lib.ListN.{length, getD}
+use borrow.Author.Tests.{le-leb, lt-leb}
 use Rattle.operators.specs.declared.Operator.{Operator}
 use Rattle.operators.specs.declared.Operator.the-variants.{Equal, NotEqual, Below, AtMost, Above, AtLeast, Distinct, NotDistinct}
 use Rattle.kleene.specs.declared.Joining.{Joining}
 use Rattle.literals.specs.Literals.{Value, null, int, text, truth, valueOf, valueAt}
 use Rattle.literals.specs.declared.Literal.{Literal}
-use Rattle.predicate.specs.Predicates.{valuesAt}
+use Rattle.predicate.specs.Predicates.{valuesAt, length-values}
 use Rattle.predicate.specs.declared.Column.{Column}
 use Rattle.table.specs.declared.Known.{Known}
 use Rattle.table.specs.declared.Known.the-variants.{True, Open}
-use Rattle.table.specs.Tables.{Table, known, folds, joined, knownFold, known-folded}
+use Rattle.table.specs.Tables.{Table, unhandled, known, folds, joined, knownFold, known-folded}
 use Rattle.table.specs.Comparisons.{Turned, asks, stays, turnedForm, comparisonForm, boundedForm, patternUpper, patternPrefix, likeTable}
-use Rattle.table.specs.Rewriting.{comparisonTable, listOperator, listJoining, membersTable, nestedTable}
+use Rattle.table.specs.Rewriting.{comparisonTable, listOperator, listJoining, membersTable, nestedTable, listTable}
 
 -- ---- joins
 
@@ -114,3 +115,19 @@ module _ (schema pool ws : List ℕ) (b : Bool) (c : Column) (n : ℕ) where
   pub members-end : (k : Known) (m at i : ℕ) → m ≤ i → membersKnown k (m - i) (at + i) ≡ k
   unfolding membersKnown
   members-end k m at i h = let e : m - i ≡ 0 = omega arith in rw e
+
+-- ---- lists by the number of their literals: none, over the limit, within it
+
+module _ (limit : ℕ) (schema pool ws : List ℕ) (b : Bool) (c : Column) (n m at : ℕ) where
+  abbrev table : Table
+  table = listTable limit schema b c n (valuesAt pool ws m at)
+
+  pub list-none : m ≡ 0 → table ≡ unhandled
+  unfolding valuesAt
+  list-none e = rw (e, le-leb 0 limit (omega arith))
+
+  pub list-over : limit < m → table ≡ unhandled
+  list-over h = let k : limit < length (valuesAt pool ws m at) = rw length-values h in rw (lt-leb _ _ k)
+
+  pub list-within : m ≤ limit → table ≡ nestedTable schema b c n (valuesAt pool ws m at)
+  list-within h = let k : length (valuesAt pool ws m at) ≤ limit = rw length-values h in rw (le-leb _ _ k)

@@ -7,7 +7,7 @@ use native.Mathlib.Nat.{add-assoc, add-zero}
 use native.Mathlib.Omega.{arith}
 use lib.ListN.{length, getD, replicate, length-append, length-replicate}
 use lib.Seq.{length-sets}
-use borrow.Author.Tests.{eq-eqb, ne-eqb, le-leb, lt-leb}
+use borrow.Author.Tests.{eq-eqb, ne-eqb}
 use Rattle.words.specs.Word.{bytesOf}
 use Rattle.words.specs.Stores.{sets-then}
 use Rattle.operators.specs.declared.Operator.{Operator}
@@ -26,6 +26,7 @@ use Rattle.table.specs.Measures.{tableWidth, width-is}
 use Rattle.table.specs.Constants.{solid-open, form-solid}
 use Rattle.table.specs.Rewriting.{listOperator, listJoining, nestedTable, listTable}
 use Rattle.table.specs.Nests.{nest, joinWord, runWords, runPool, nest-words, nest-pool, isOpen, keptIf, opens, allOpen, nestOf, listFold, memberTable, memberTables, nested-folds}
+use Rattle.knowing.specs.Knowns.{list-within}
 use Rattle.turning.specs.Turns.{Turns}
 use Rattle.turning.specs.declared.Turned.{Turned}
 use Rattle.turning.specs.declared.Turned.the-variants.{Against, Unhandled}
@@ -305,15 +306,6 @@ module _ (limit : ℕ) (schema pool ws : List ℕ) (b : Bool) (c : Column) (flip
   abbrev table : Table
   table = listTable limit schema b c flips (valuesAt pool ws k at)
 
-  -- no literal
-  pub list-none : k ≡ 0 → table ≡ always true
-  unfolding valuesAt
-  list-none e = rw (e, le-leb 0 limit (omega arith))
-
-  -- over the limit
-  pub list-over : limit < k → table ≡ always true
-  list-over h = let n : limit < length (valuesAt pool ws k at) = rw length-values h in rw (lt-leb _ _ n)
-
   members-length : (vs : List Value) → length (memberTables schema b c flips vs) ≡ length vs
   members-length [] = refl
   members-length (v ∷ vs) = ap suc (members-length vs)
@@ -325,17 +317,17 @@ module _ (limit : ℕ) (schema pool ws : List ℕ) (b : Bool) (c : Column) (flip
       rw (e, ← members-length (v ∷ vs))
       (nested-folds schema b c flips v vs ∙ fold-is b (memberTable schema b c flips v) (memberTables schema b c flips vs))
 
-  list-within : (m : ℕ) → (k ≡ 0 → ⊥) → k ≤ limit → m ≡ length (openAt schema pool ws b c flips k at)
+  list-nested : (m : ℕ) → (k ≡ 0 → ⊥) → k ≤ limit → m ≡ length (openAt schema pool ws b c flips k at)
       → table ≡ cond (hasForm b m k) (nestOf (listJoining b) (openAt schema pool ws b c flips k at)) (always true)
   unfolding openAt
-  list-within m z h e =
+  list-nested m z h e =
       let n : length (valuesAt pool ws k at) ≡ k = length-values pool ws k at in
-      rw (n, le-leb k limit h) (rw n at (nested-is (valuesAt pool ws k at) (omega arith) m e))
+      list-within limit schema pool ws b c flips k at h ∙ (rw n at (nested-is (valuesAt pool ws k at) (omega arith) m e))
 
   pub list-form : (m : ℕ) → (k ≡ 0 → ⊥) → k ≤ limit → m ≡ length (openAt schema pool ws b c flips k at) → hasForm b m k ≡ true
       → table ≡ nestOf (listJoining b) (openAt schema pool ws b c flips k at)
-  list-form m z h e f = list-within m z h e ∙ rw f
+  list-form m z h e f = list-nested m z h e ∙ rw f
 
   pub list-unhandled : (m : ℕ) → (k ≡ 0 → ⊥) → k ≤ limit → m ≡ length (openAt schema pool ws b c flips k at) → hasForm b m k ≡ false
       → table ≡ always true
-  list-unhandled m z h e f = list-within m z h e ∙ rw f
+  list-unhandled m z h e f = list-nested m z h e ∙ rw f

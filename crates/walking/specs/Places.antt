@@ -11,12 +11,16 @@ use borrow.Author.Tests.{ltb-true, ltb-false}
 use Rattle.words.specs.Word.{wordsOf}
 use Rattle.words.specs.WordLaws.{length-words}
 use Rattle.operators.specs.Operators.{operatorOf}
+use Rattle.operators.specs.declared.Operator.{Operator}
+use Rattle.kleene.specs.declared.Truth.{Truth}
 use Rattle.kleene.specs.declared.Truth.the-variants.{False, Unknown}
+use Rattle.kleene.specs.declared.Joining.{Joining}
 use Rattle.kleene.specs.declared.Joining.the-variants.{And, Or}
 use Rattle.literals.specs.Literals.{literalOf}
 use Rattle.predicate.specs.Nodes.{kindOf, operatorField, columnOf, flipsOf, firstField, countOf, constantOf, orEqual, negatedOf, nodeOf}
 use Rattle.predicate.specs.Predicates.{Read, nodeAt, nodePredicate, predicateAt, length-values}
 use Rattle.predicate.specs.Measures.{width, depth}
+use Rattle.predicate.specs.declared.Column.{Column}
 use Rattle.predicate.specs.declared.Node.{Node}
 use Rattle.predicate.specs.declared.Node.the-variants.{Constant, Join, Not, TruthColumn, IsNull, IsNotNull, Comparison, List as InList, Like}
 
@@ -29,6 +33,39 @@ Near bs at = at ≤ length bs / 4 + 2 ^ 16
 pub node-past : (pool ws : List ℕ) (at : ℕ) → length ws ≤ at → nodeAt pool ws at ≡ Constant False
 unfolding nodeOf
 node-past pool ws at h = rw (List·getD-eq-default ws 0 h)
+
+-- ---- what holds of every node that a word can stand for
+
+abbrev EachNode : (Node → Type 0) → List Node → Type 0
+EachNode P [] = Unit {0}
+EachNode P (n ∷ ns) = P n × EachNode P ns
+
+each-getD : (P : Node → Type 0) (ns : List Node) (i : ℕ) (z : Node) → EachNode P ns → P z → P (getD ns i z)
+each-getD P [] i z h k = k
+each-getD P (n ∷ ns) zero z h k = h .0
+each-getD P (n ∷ ns) (suc i) z h k = each-getD P ns i z (h .1) k
+
+pub node-each : (P : Node → Type 0) (pool : List ℕ) (w l : ℕ) → ((t : Truth) → P (Constant t)) → ((j : Joining) → P (Join j)) → P Not
+    → ((c : Column) → P (TruthColumn c)) → ((c : Column) → P (IsNull c)) → ((c : Column) → P (IsNotNull c))
+    → ((o : Operator) (c : Column) (n : ℕ) (b : Bool) → P (Comparison o c n b (literalOf pool l)))
+    → ((b : Bool) (c : Column) (n : ℕ) → P (InList b c n (countOf w))) → ((b : Bool) (c : Column) → P (Like b c (literalOf pool l)))
+    → P (nodeOf pool w l)
+unfolding nodeOf
+node-each P pool w l constant join not column null value comparison list like =
+    each-getD P
+    (Constant (constantOf (operatorField w))
+    ∷ Join And
+    ∷ Join Or
+    ∷ Not
+    ∷ TruthColumn (columnOf w)
+    ∷ IsNull (columnOf w)
+    ∷ IsNotNull (columnOf w)
+    ∷ Comparison (orEqual (operatorOf (operatorField w))) (columnOf w) (flipsOf w) (eqb (firstField w) 1) (literalOf pool l)
+    ∷ InList (negatedOf w) (columnOf w) (flipsOf w) (countOf w)
+    ∷ Like (negatedOf w) (columnOf w) (literalOf pool l)
+    ∷ [])
+    (kindOf w) (Constant Unknown)
+    (constant _, (join And, (join Or, (not, (column _, (null _, (value _, (comparison _ _ _ _, (list _ _ _, (like _ _, tt)))))))))) (constant Unknown)
 
 -- ---- a list's count is 15 bits
 
@@ -43,31 +80,9 @@ Counts (Comparison o c n b l) = Unit {0}
 Counts (InList b c n k) = k < 2 ^ 15
 Counts (Like b c l) = Unit {0}
 
-abbrev AllCount : List Node → Type 0
-AllCount [] = Unit {0}
-AllCount (n ∷ ns) = Counts n × AllCount ns
-
-counts-getD : (ns : List Node) (i : ℕ) (z : Node) → AllCount ns → Counts z → Counts (getD ns i z)
-counts-getD [] i z h k = k
-counts-getD (n ∷ ns) zero z h k = h .0
-counts-getD (n ∷ ns) (suc i) z h k = counts-getD ns i z (h .1) k
-
 counts : (pool : List ℕ) (w l : ℕ) → Counts (nodeOf pool w l)
-unfolding nodeOf
 counts pool w l =
-    counts-getD
-    (Constant (constantOf (operatorField w))
-    ∷ Join And
-    ∷ Join Or
-    ∷ Not
-    ∷ TruthColumn (columnOf w)
-    ∷ IsNull (columnOf w)
-    ∷ IsNotNull (columnOf w)
-    ∷ Comparison (orEqual (operatorOf (operatorField w))) (columnOf w) (flipsOf w) (eqb (firstField w) 1) (literalOf pool l)
-    ∷ InList (negatedOf w) (columnOf w) (flipsOf w) (countOf w)
-    ∷ Like (negatedOf w) (columnOf w) (literalOf pool l)
-    ∷ [])
-    (kindOf w) (Constant Unknown) (tt, (tt, (tt, (tt, (tt, (tt, (tt, (tt, (omega arith, (tt, tt)))))))))) tt
+    node-each Counts pool w l (λ t. tt) (λ j. tt) tt (λ c. tt) (λ c. tt) (λ c. tt) (λ o c n b. tt) (λ b c n. omega arith) (λ b c. tt)
 
 -- ---- where a predicate ends
 

@@ -20,14 +20,11 @@ use Rattle.statistics.specs.declared.Statistic.the-variants.{Blanks, Rows}
 use Rattle.statistics.specs.Statistics.{placeOf}
 use Rattle.table.specs.Tables.{Table, both, negation}
 use Rattle.table.specs.Comparisons.{wrapped}
-use Rattle.table.specs.Encoding.{tableWord, joiningKind, differKind, negationKind, poolOf, tableWords}
+use Rattle.table.specs.Nests.{joinWord}
+use Rattle.table.specs.Encoding.{tableWord, differKind, negationKind, poolOf, tableWords}
 use Rattle.table.specs.Measures.{tableWidth, width-is}
 use Rattle.writing.specs.declared.Spot.{Spot}
 use Rattle.writing.specs.Writing.{Wide, Room, Head, Wrote}
-
--- the word of a join
-abbrev pub joinWord : Joining → ℕ
-joinWord j = tableWord (joiningKind j) 0 0 0 0
 
 -- the word of a NOT
 abbrev pub notWord : ℕ

@@ -17,10 +17,11 @@ ghost use Rattle.statistics.specs.declared.Statistic.the-variants.{Least, Great
 ghost use Rattle.table.specs.Tables.{always, both, against, holds};
 ghost use Rattle.table.specs.Comparisons.{hasBlanks, hasValues};
 ghost use Rattle.table.specs.Rewriting.{columnTable, notColumnTable};
+ghost use Rattle.table.specs.Nests.{joinWord};
 ghost use Rattle.table.specs.Encoding.{tableWord};
 ghost use Rattle.listing.specs.Listing.{listOf, Few};
 ghost use Rattle.writing.specs.Writing.{Wide, Room, Ready, Clipped, Head, Put, Wrote};
-ghost use Rattle.writing.specs.WritingLaws.{joinWord, notWord, wrapWords};
+ghost use Rattle.writing.specs.WritingLaws.{notWord, wrapWords};
 
 // How far writing has come: words of the table, bytes of the pool.
 pub struct Spot {

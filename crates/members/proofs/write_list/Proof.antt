@@ -5,7 +5,8 @@ use Prim.Native.Nat.{_+_}
 use denote.Ref.{now}
 use Rattle.words.specs.Word.{wordsOf}
 use Rattle.listing.specs.Listing.{listOf}
-use Rattle.members.proofs.Laws.{list-none, list-over, list-form, list-unhandled, form-some}
+use Rattle.knowing.specs.Knowns.{list-none, list-over}
+use Rattle.members.proofs.Laws.{list-form, list-unhandled, form-some}
 use Rattle.members.proofs.write_list.Statement.{statement}
 use Rattle.members.proofs.write_list.Tie as tie
 

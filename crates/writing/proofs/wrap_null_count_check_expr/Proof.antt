@@ -8,7 +8,8 @@ use Rattle.table.specs.Encoding.{tableWord, differKind}
 use Rattle.statistics.specs.declared.Statistic.the-variants.{Blanks, Rows}
 use Rattle.statistics.specs.Statistics.{placeOf}
 use Rattle.listing.specs.Listing.{listOf}
-use Rattle.writing.specs.WritingLaws.{joinWord, wide-head, head-then}
+use Rattle.table.specs.Nests.{joinWord}
+use Rattle.writing.specs.WritingLaws.{wide-head, head-then}
 use Rattle.writing.proofs.wrap_null_count_check_expr.Statement.{statement}
 use Rattle.writing.proofs.wrap_null_count_check_expr.Tie as tie
 

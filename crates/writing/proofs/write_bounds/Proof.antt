@@ -6,7 +6,8 @@ use denote.Ref.{now}
 use Rattle.statistics.specs.declared.Statistic.the-variants.{Least, Greatest}
 use Rattle.table.specs.Tables.{holds}
 use Rattle.listing.specs.Listing.{listOf}
-use Rattle.writing.specs.WritingLaws.{joinWord, wide-head, wide-wrote, wrote-both}
+use Rattle.table.specs.Nests.{joinWord}
+use Rattle.writing.specs.WritingLaws.{wide-head, wide-wrote, wrote-both}
 use Rattle.writing.proofs.write_bounds.Statement.{statement}
 use Rattle.writing.proofs.write_bounds.Tie as tie
 
