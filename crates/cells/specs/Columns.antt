@@ -9,6 +9,7 @@ use native.Mathlib.Omega.{arith}
 use lib.ListN.{length, getD, drop, drop-of-length-le}
 use lib.Seq.{drop-cons}
 use borrow.Author.Tests.{not-true, not-false}
+use Rattle.limits.specs.Limits.{maxStatistics}
 use Rattle.words.specs.Word.{wordAt, wordsOf}
 use Rattle.words.specs.WordLaws.{length-words, words-at}
 use Rattle.suiting.specs.Suiting.{fitting}
@@ -34,7 +35,7 @@ module _ (schema pool grid : List ℕ) (wide n : ℕ) where
 -- a column that begins in the first row, and a grid of so many rows
 pub record ColumnRoom (grid : List ℕ) (at wide containers : ℕ) : Type 0 where
   pub first : at < wide
-  pub narrow : wide ≤ 193
+  pub narrow : wide ≤ maxStatistics
   pub rows : containers * wide ≤ length grid / 8
 
 -- ---- rows and columns

@@ -4,7 +4,7 @@ use statistics::Statistic;
 ghost use mathlib.Core.Path.{_≡_};
 ghost use Prim.Native.Nat.{_+_, _*_, _/_, _≤_};
 ghost use lib.ListN.{length};
-ghost use Rattle.limits.specs.Limits.{maxContainers, statisticsRoom};
+ghost use Rattle.limits.specs.Limits.{maxContainers, maxGuarantees, statisticsRoom};
 ghost use Rattle.words.specs.Word.{wordAt, wordsOf};
 ghost use Rattle.literals.specs.Literals.{offsetOf, integerType};
 ghost use Rattle.pruning.specs.Cells.{cellType, countAt, rowsFine, upToTwo, answersFine};
@@ -126,7 +126,7 @@ fn up_to_two(answers: &[u8]) -> bool
 
 // No answer at all, or one for each container and guarantee.
 fn answers_hold(len: usize, containers: usize, guarantees: usize) -> bool
-    requires { ⌜ (containers ≤ maxContainers) × (guarantees ≤ 128) ⌝ }
+    requires { ⌜ (containers ≤ maxContainers) × (guarantees ≤ maxGuarantees) ⌝ }
     ensures { λ r. ⌜ r ≡ answersHold len containers guarantees ⌝ }
 {
     if len == 0 {
@@ -137,7 +137,7 @@ fn answers_hold(len: usize, containers: usize, guarantees: usize) -> bool
 
 // Answers: none at all, or a byte up to 2 for each container and guarantee.
 pub fn answers_fine(containers: usize, guarantees: usize, answers: &[u8]) -> bool
-    requires { ⌜ (containers ≤ maxContainers) × (guarantees ≤ 128) ⌝ }
+    requires { ⌜ (containers ≤ maxContainers) × (guarantees ≤ maxGuarantees) ⌝ }
     ensures { λ r. ⌜ r ≡ answersFine containers guarantees (now (answers .entry)) ⌝ }
 {
     if !answers_hold(answers.len(), containers, guarantees) {

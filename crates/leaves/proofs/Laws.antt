@@ -1,25 +1,22 @@
--- The members of a list one after the other, a turned comparison, LIKE, and a range as far as its pool goes. Assumes nothing.
-use mathlib.Core.Path.{_≡_, sym, _∙_}
+-- The members of a list one after the other, a turned comparison, and LIKE. Assumes nothing.
+use mathlib.Core.Path.{_≡_, refl}
 use mathlib.Core.Bool.{Bool, true, false}
-use mathlib.Core.Option.{Option}
+use mathlib.Core.Option.{Option, some, none}
 use mathlib.Core.List.{List, [], _++_}
 use Prim.Native.Nat.{ℕ, suc, _+_, _-_, _≤_, _<_}
 use native.Mathlib.Omega.{arith}
-use lib.ListN.{length, getD, take, drop, length-drop, drop-of-length-le}
-use lib.Seq.{take-all, take-nil}
+use lib.ListN.{getD}
 use borrow.Author.Tests.{le-leb, lt-leb}
-use Rattle.words.specs.Word.{rangeOf}
-use Rattle.words.specs.declared.Range.{Range}
 use Rattle.operators.specs.declared.Operator.{Operator}
 use Rattle.operators.specs.declared.Operator.the-variants.{Equal}
 use Rattle.literals.specs.Literals.{Value, valueOf, valueAt}
 use Rattle.literals.specs.declared.Literal.{Literal}
-use Rattle.increment.specs.Outcome.{endOf, until-some, absent-none}
-use Rattle.increment.specs.declared.End.the-variants.{Until, Absent}
 use Rattle.predicate.specs.Checking.{typeIn}
 use Rattle.predicate.specs.Predicates.{valuesAt, length-values}
 use Rattle.predicate.specs.declared.Column.{Column}
 use Rattle.statistics.specs.declared.Statistic.{Statistic}
+use Rattle.table.specs.declared.Known.the-variants.{False, True, Open}
+use Rattle.knowing.specs.Knowns.{knownBounded}
 use Rattle.table.specs.Comparisons.{turned, comparisonLists, patternUpper, likeLists}
 use Rattle.table.specs.Rewriting.{columnLists, listOperator, comparisonStatistics, membersLists, listLists}
 use Rattle.listing.specs.Listing.{Room, Grown, isBounded}
@@ -100,11 +97,17 @@ module _ (schema pool : List ℕ) (c : Column) (kind : ℕ) (o : Operator) (flip
 
 -- ---- LIKE
 
-pub until-bounded : (o : Option (List ℕ)) (n : ℕ) → Until n ≡ endOf o → true ≡ isBounded o
-until-bounded o n e = rw (until-some o n e .1)
+pub open-bounded : (o : Option (List ℕ)) → Open ≡ knownBounded o → true ≡ isBounded o
+open-bounded none e = let z : _≡_ {A = ℕ} 0 1 = cc in absurd (omega arith)
+open-bounded (some u) e = refl
 
-pub absent-bounded : (o : Option (List ℕ)) → Absent ≡ endOf o → false ≡ isBounded o
-absent-bounded o e = rw (absent-none o e)
+pub true-bounded : (o : Option (List ℕ)) → True ≡ knownBounded o → false ≡ isBounded o
+true-bounded none e = refl
+true-bounded (some u) e = let z : _≡_ {A = ℕ} 0 1 = cc in absurd (omega arith)
+
+pub false-bounded : (o : Option (List ℕ)) → False ≡ knownBounded o → false ≡ isBounded o
+false-bounded none e = refl
+false-bounded (some u) e = let z : _≡_ {A = ℕ} 0 1 = cc in absurd (omega arith)
 
 module _ (b : Bool) (c : Column) (v : Value) (e : b ≡ false) where
   pub like-bounded : isBounded (patternUpper v) ≡ true → likeLists b c v ≡ comparisonLists c Equal
@@ -112,19 +115,3 @@ module _ (b : Bool) (c : Column) (v : Value) (e : b ≡ false) where
 
   pub like-unbounded : isBounded (patternUpper v) ≡ false → likeLists b c v ≡ columnLists c
   like-unbounded h = rw (e, like-listed c v, h)
-
--- ---- a range of a pool, as far as it goes
-
-module _ (pool : List ℕ) (r : Range) where
-  pub part-past : length pool ≤ r .at → take (length pool - length pool) (drop (length pool) pool) ≡ rangeOf pool r
-  part-past h =
-      let e : drop (length pool) pool ≡ [] = drop-of-length-le pool {i = length pool} (omega arith) in
-      rw (drop-of-length-le pool {i = r .at} h, e, take-nil (length pool - length pool), take-nil (r .len))
-
-  pub part-cut : length pool - r .at ≤ r .len → take (length pool - r .at) (drop (r .at) pool) ≡ rangeOf pool r
-  part-cut h =
-      let k : length (drop (r .at) pool) ≡ length pool - r .at = length-drop (r .at) pool in
-      take-all (length pool - r .at) (drop (r .at) pool) (omega arith) ∙ sym (take-all (r .len) (drop (r .at) pool) (omega arith))
-
-  pub part-whole : take (r .at + r .len - r .at) (drop (r .at) pool) ≡ rangeOf pool r
-  part-whole = let e : r .at + r .len - r .at ≡ r .len = omega arith in rw e

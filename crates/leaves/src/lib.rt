@@ -1,19 +1,14 @@
 // What each kind of node asks for, listed at the front of a lent buffer.
-use increment::End;
 use literals::Literal;
 use operators::Operator;
 use predicate::Column;
 use predicate::Node;
+use table::Known;
 use turning::Turned;
-use words::Range;
 ghost use mathlib.Core.Path.{_≡_};
-ghost use Prim.Native.Nat.{_+_, _^_, _≤_, _<_};
-ghost use lib.ListN.{length};
-ghost use Rattle.limits.specs.Limits.{maxLiteralBytes};
-ghost use Rattle.words.specs.Word.{wordsOf, rangeOf};
+ghost use Prim.Native.Nat.{_+_, _^_, _<_};
+ghost use Rattle.words.specs.Word.{wordsOf};
 ghost use Rattle.literals.specs.Literals.{valueOf};
-ghost use Rattle.text.specs.Utf8.{Utf8};
-ghost use Rattle.text.specs.Upper.{upperOf};
 ghost use Rattle.predicate.specs.Predicates.{valuesAt, predicateAt};
 ghost use Rattle.predicate.specs.Accepted.{Pattern};
 ghost use Rattle.walking.specs.Places.{Near};
@@ -93,44 +88,15 @@ pub fn list_in(
     n
 }
 
-// The bytes of a range, as far as the pool goes.
-fn part(pool: &[u8], r: Range) -> &[u8]
-    ensures { λ s. ⌜ now s ≡ rangeOf (now (pool .entry)) r ⌝ }
-{
-    let at = r.at;
-    let len = r.len;
-    let n = pool.len();
-    if n <= at {
-        return &pool[n..];
-    }
-    if n - at <= len {
-        return &pool[at..];
-    }
-    &pool[at..at + len]
-}
-
-// Whether a pattern's text has an upper bound.
-fn has_upper(p: &[u8]) -> bool
-    requires { ⌜ Utf8 (now p) × (length (now p) ≤ maxLiteralBytes) ⌝ }
-    ensures { λ r. ⌜ r ≡ isBounded (upperOf (now (p .entry))) ⌝ }
-{
-    let mut out = [0; limits::MAX_TABLE_TEXT_BYTES];
-    match increment::upper_bound(p, &mut out) {
-        End::Until(_) => true,
-        End::Absent => false,
-    }
-}
-
 // Whether a pattern has an upper bound.
 fn is_bounded(pool: &[u8], l: Literal) -> bool
     requires { ⌜ Pattern (valueOf (now pool) l) ⌝ }
     ensures { λ r. ⌜ r ≡ isBounded (patternUpper (valueOf (now (pool .entry)) l)) ⌝ }
 {
-    match l {
-        Literal::Null => false,
-        Literal::Int(_) => false,
-        Literal::Text(r) => has_upper(part(pool, r)),
-        Literal::Truth(_) => false,
+    match knowing::known_like(pool, false, l) {
+        Known::False => false,
+        Known::True => false,
+        Known::Open => true,
     }
 }
 
