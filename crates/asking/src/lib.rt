@@ -13,7 +13,7 @@ ghost use Rattle.listing.specs.Listing.{Room, Grown};
 use predicate::Node;
 
 // The place behind a predicate, and how many statistics are listed by then.
-#[derive(Drop)]
+#[derive(Clone, Copy)]
 pub struct Asked {
     pub next: usize,
     pub n: usize,

@@ -12,7 +12,7 @@ use literals::Literal;
 use statistics::Statistic;
 
 // A count of blanks or rows, read unsigned.
-#[derive(Drop)]
+#[derive(Clone, Copy)]
 pub enum Count {
     Absent,
     Of(u64),

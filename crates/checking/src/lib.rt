@@ -11,7 +11,7 @@ use predicate::{Checked, Column, Node, Progress, Shape};
 use words::Range;
 
 // What one node word is judged: a refusal's number, or the node.
-#[derive(Drop)]
+#[derive(Clone, Copy)]
 pub enum Judged {
     Faulty(u8),
     Fine(Node),

@@ -19,7 +19,7 @@ use operators::Operator;
 use words::{Operand, Order, Range};
 
 // How two values compare; apart where one is absent or null, or of another type.
-#[derive(Drop)]
+#[derive(Clone, Copy)]
 pub enum Compared {
     Apart,
     By(Order),

@@ -21,7 +21,7 @@ use table::Folded;
 use writing::Spot;
 
 // What is written of a node: itself, a constant, the side at a place, or both sides joined, the second at a place.
-#[derive(Drop)]
+#[derive(Clone, Copy)]
 enum Way {
     Leaf,
     Fixed(bool),

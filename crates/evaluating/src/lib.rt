@@ -24,14 +24,14 @@ use literals::Literal;
 use statistics::Place;
 
 // What a table is worth, and the place of the word behind it.
-#[derive(Drop)]
+#[derive(Clone, Copy)]
 pub struct Valued {
     pub value: Truth,
     pub next: usize,
 }
 
 // A node without its children: a leaf's worth and how many words it has, or what is done with the children.
-#[derive(Drop)]
+#[derive(Clone, Copy)]
 pub enum Step {
     Leaf(Truth, usize),
     Both(Joining),

@@ -13,14 +13,14 @@ use predicate::Node;
 use table::Known;
 
 // What a part of a predicate comes to, and the place behind it.
-#[derive(Drop)]
+#[derive(Clone, Copy)]
 pub struct Part {
     pub known: Known,
     pub next: usize,
 }
 
 // What a node asks: both its sides joined, or nothing more.
-#[derive(Drop)]
+#[derive(Clone, Copy)]
 enum Step {
     Both(Joining),
     Leaf(Known),

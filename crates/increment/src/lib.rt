@@ -12,21 +12,21 @@ ghost use Rattle.increment.specs.Walk.{is_cont, start_at, of2, of3, of4, decode_
 ghost use Rattle.increment.specs.Outcome.{next_of, place_of, Outcome};
 
 // A character raised, where it can be.
-#[derive(Drop)]
+#[derive(Clone, Copy)]
 enum Next {
     To(u32),
     Nothing,
 }
 
 // Where the character to raise begins, and what it is raised to.
-#[derive(Drop)]
+#[derive(Clone, Copy)]
 enum Rise {
     At(usize, u32),
     Never,
 }
 
 // Where a text ends in its buffer, if there is one.
-#[derive(Drop)]
+#[derive(Clone, Copy)]
 pub enum End {
     Until(usize),
     Absent,

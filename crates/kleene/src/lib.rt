@@ -2,7 +2,7 @@
 ghost use Rattle.std.specs.Prelude.{◌≡◌, ◌<◌};
 ghost use Rattle.kleene.specs.Truths.{place_of, kleene_and, kleene_or, kleene_not, kleene};
 
-#[derive(Drop)]
+#[derive(Clone, Copy)]
 pub enum Truth {
     False,
     Unknown,
@@ -10,7 +10,7 @@ pub enum Truth {
 }
 
 // The two ways of joining predicates.
-#[derive(Drop)]
+#[derive(Clone, Copy)]
 pub enum Joining {
     And,
     Or,

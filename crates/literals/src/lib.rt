@@ -6,7 +6,7 @@ ghost use Rattle.literals.specs.Literals.{literal_layout, type_of, length_of, ze
 
 use words::{Order, Range};
 
-#[derive(Drop)]
+#[derive(Clone, Copy)]
 pub enum Literal {
     Null,
     Int(i64),
@@ -15,7 +15,7 @@ pub enum Literal {
 }
 
 // Minus a number of 64 bits, where it has 64 bits.
-#[derive(Drop)]
+#[derive(Clone, Copy)]
 pub enum Negated {
     To(i64),
     Unhandled,

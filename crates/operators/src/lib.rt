@@ -5,7 +5,7 @@ ghost use Rattle.operators.specs.Operators.{operator_of, code_of, swap_of, holds
 
 use words::Order;
 
-#[derive(Drop)]
+#[derive(Clone, Copy)]
 pub enum Operator {
     Equal,
     NotEqual,
@@ -18,7 +18,7 @@ pub enum Operator {
 }
 
 // What a code stands for.
-#[derive(Drop)]
+#[derive(Clone, Copy)]
 pub enum OperatorRead {
     Known(Operator),
     Unknown,

@@ -11,11 +11,11 @@ use literals::Literal;
 use operators::{Operator, OperatorRead};
 
 // A column of the schema.
-#[derive(Drop)]
+#[derive(Clone, Copy)]
 pub struct Column(pub u8);
 
 // A predicate node; a comparison carries its literal.
-#[derive(Drop)]
+#[derive(Clone, Copy)]
 pub enum Node {
     Constant(Truth),
     Join(Joining),
@@ -32,7 +32,7 @@ pub enum Node {
 }
 
 // What a kind of node has: so many operators, from 0, and which of the fields that only some kinds have.
-#[derive(Drop)]
+#[derive(Clone, Copy)]
 pub struct Shape {
     pub operators: u8,
     pub column: bool,
@@ -42,7 +42,7 @@ pub struct Shape {
 }
 
 // How far checking has come: the next word's place, and the nodes, list literals and literal bytes so far.
-#[derive(Drop)]
+#[derive(Clone, Copy)]
 pub struct Progress {
     pub place: usize,
     pub nodes: usize,
@@ -51,7 +51,7 @@ pub struct Progress {
 }
 
 // A refusal's number, or the progress so far.
-#[derive(Drop)]
+#[derive(Clone, Copy)]
 pub enum Checked {
     Refused(u8),
     Passed(Progress),

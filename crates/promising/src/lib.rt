@@ -14,7 +14,7 @@ use operators::Operator;
 use predicate::{Column, Node};
 
 // What a node gives: no guarantee, one of a column (whether NotIn), or what both its sides give.
-#[derive(Drop)]
+#[derive(Clone, Copy)]
 enum Promise {
     Nothing,
     Keeps(Column, bool),
@@ -22,7 +22,7 @@ enum Promise {
 }
 
 // The place behind a predicate, and how many guarantees are written.
-#[derive(Drop)]
+#[derive(Clone, Copy)]
 pub struct Written {
     pub next: usize,
     pub n: usize,

@@ -15,7 +15,7 @@ use operators::{Operator, OperatorRead};
 use statistics::Place;
 
 // A rewritten node; a comparison carries its literal.
-#[derive(Drop)]
+#[derive(Clone, Copy)]
 pub enum TableNode {
     Always(bool),
     Join(Joining),
@@ -28,7 +28,7 @@ pub enum TableNode {
 }
 
 // Whether a table breaks a rule, or the place of the word behind it.
-#[derive(Drop)]
+#[derive(Clone, Copy)]
 pub enum Reached {
     Broken,
     At(usize),

@@ -9,28 +9,28 @@ ghost use Rattle.replay_refusals.specs.Reading.{Leads};
 use libc::STDOUT_FILENO;
 
 // A decimal field.
-#[derive(Drop)]
+#[derive(Clone, Copy)]
 enum Number {
     Is(usize),
     Unread,
 }
 
 // A byte so many times, and the place behind it.
-#[derive(Drop)]
+#[derive(Clone, Copy)]
 enum Run {
     Of(u8, usize, usize),
     Unread,
 }
 
 // How many bytes a field has filled in a buffer.
-#[derive(Drop)]
+#[derive(Clone, Copy)]
 enum Filled {
     Bytes(usize),
     Unread,
 }
 
 // What a line came to.
-#[derive(Drop)]
+#[derive(Clone, Copy)]
 enum Replay {
     Same,
     Differs,

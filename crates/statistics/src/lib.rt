@@ -7,11 +7,11 @@ ghost use Rattle.statistics.specs.Statistics.{statistic_of, statistic_word, stat
 use predicate::Column;
 
 // A place in the statistics list.
-#[derive(Drop)]
+#[derive(Clone, Copy)]
 pub struct Place(pub u8);
 
 // A statistic of a container: of one of its columns, or how many rows it has.
-#[derive(Drop)]
+#[derive(Clone, Copy)]
 pub enum Statistic {
     Least(Column),
     Greatest(Column),

@@ -1,7 +1,7 @@
 // Rewritten tables: the forms of comparisons, and folding.
 
 // Whether a rewritten part is a constant.
-#[derive(Drop)]
+#[derive(Clone, Copy)]
 pub enum Known {
     False,
     True,
@@ -9,7 +9,7 @@ pub enum Known {
 }
 
 // What a join of two rewritten parts comes to.
-#[derive(Drop)]
+#[derive(Clone, Copy)]
 pub enum Folded {
     Fixed(bool),
     Left,

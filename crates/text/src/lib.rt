@@ -5,7 +5,7 @@ ghost use Rattle.text.specs.Pattern.{ends_at, opens_at, prefix_of, rest_of};
 ghost use Rattle.text.specs.Wrote.{Wrote};
 
 // How many continuation bytes are still to come, and between which bounds the next one lies. Past a fault nothing lies in the bounds.
-#[derive(Drop)]
+#[derive(Clone, Copy)]
 pub struct State {
     pub need: u8,
     pub lo: u8,

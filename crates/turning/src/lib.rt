@@ -8,7 +8,7 @@ use literals::{Literal, Negated};
 use operators::Operator;
 
 // An operator against a literal on its right, or unhandled.
-#[derive(Drop)]
+#[derive(Clone, Copy)]
 pub enum Turned {
     Against(Operator, Literal),
     Unhandled,

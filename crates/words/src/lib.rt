@@ -6,7 +6,7 @@ ghost use Rattle.words.specs.Pools.{Cut, Inside, operand_of, OperandInside};
 ghost use Rattle.words.specs.Bytes.{byte_order};
 
 // How two values compare.
-#[derive(Drop)]
+#[derive(Clone, Copy)]
 pub enum Order {
     Less,
     Equal,
@@ -14,14 +14,14 @@ pub enum Order {
 }
 
 // len bytes of a pool, from at on.
-#[derive(Drop)]
+#[derive(Clone, Copy)]
 pub struct Range {
     pub at: usize,
     pub len: usize,
 }
 
 // What a comparison reads: a range of the literal pool or of the cell pool.
-#[derive(Drop)]
+#[derive(Clone, Copy)]
 pub enum Operand {
     Literal(Range),
     Cell(Range),

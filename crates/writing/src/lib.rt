@@ -21,7 +21,7 @@ use statistics::{Place, Statistic};
 use words::Range;
 
 // How far writing has come: words of the table, bytes of the pool.
-#[derive(Drop)]
+#[derive(Clone, Copy)]
 pub struct Spot {
     pub to: usize,
     pub off: usize,
