@@ -1,4 +1,6 @@
 // The statistics that a predicate asks for, listed at the front of a lent buffer.
+#![tactic(auto)]
+
 ghost use Rattle.std.specs.Prelude.{◌≡◌, ◌≤◌, length};
 ghost use Rattle.limits.specs.Limits.{max_columns, max_depth, statistics_room};
 ghost use Rattle.words.specs.Word.{words_of, bytes_of};

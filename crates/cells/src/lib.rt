@@ -1,4 +1,6 @@
 // Cells, the grid and the answers: what is accepted, and the counts that cells hold.
+#![tactic(auto)]
+
 ghost use Rattle.std.specs.Prelude.{◌≡◌, ◌+◌, ◌*◌, ◌/◌, ◌≤◌, length};
 ghost use Rattle.limits.specs.Limits.{max_containers, max_guarantees, statistics_room};
 ghost use Rattle.words.specs.Word.{word_at, words_of};

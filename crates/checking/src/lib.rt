@@ -1,4 +1,6 @@
 // Node checking: which refusal the bytes of a rewriting call get, word by word, 4 before 5 before 6 in a word.
+#![tactic(auto)]
+
 ghost use Rattle.std.specs.Prelude.{◌≡◌, ◌&&◌, length, ltb};
 ghost use Rattle.words.specs.Word.{words_of};
 ghost use Rattle.literals.specs.Literals.{suits};

@@ -1,4 +1,6 @@
 // How a cell compares with a literal or another cell, and what that is worth.
+#![tactic(auto)]
+
 ghost use Rattle.std.specs.Prelude.{◌≡◌, ◌/◌, ◌^◌, eqb, pos};
 ghost use Rattle.words.specs.Word.{word_at, range_of};
 ghost use Rattle.words.specs.Bytes.{byte_order};

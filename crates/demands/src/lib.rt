@@ -1,1 +1,2 @@
 // The demands as theorems, and what the definitions say of document 01's own cases. No function.
+#![tactic(auto)]

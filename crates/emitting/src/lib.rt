@@ -1,5 +1,7 @@
 // The table that a predicate is rewritten to, written in table order into a lent table and a lent literal pool. What a subtree comes
 // to is known before any of it is written, so nothing is written that the table does not hold.
+#![tactic(auto)]
+
 ghost use Rattle.std.specs.Prelude.{◌≡◌, List, ℕ, ◌-◌, ◌<◌};
 ghost use Rattle.words.specs.Word.{words_of};
 ghost use Rattle.literals.specs.Literals.{value_of, LiteralFits};

@@ -1,4 +1,6 @@
 // Evaluates a checked table on a container's row of cells.
+#![tactic(auto)]
+
 ghost use Rattle.std.specs.Prelude.{◌≡◌, ◌+◌, ◌/◌, ◌<◌, length, get_or, eqb};
 ghost use Rattle.limits.specs.Limits.{max_table_depth};
 ghost use Rattle.words.specs.Word.{words_of};

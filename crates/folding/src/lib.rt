@@ -1,4 +1,6 @@
 // Folding: what rewriting a predicate comes to, false, true or open, with nothing written.
+#![tactic(auto)]
+
 ghost use Rattle.std.specs.Prelude.{◌≡◌, ◌<◌};
 ghost use Rattle.words.specs.Word.{words_of};
 ghost use Rattle.predicate.specs.Predicates.{predicate_at};

@@ -1,4 +1,6 @@
 // The forms of comparisons and of LIKE, written into a lent table and a lent literal pool.
+#![tactic(auto)]
+
 ghost use Rattle.std.specs.Prelude.{◌≡◌, true, false};
 ghost use Rattle.kleene.specs.declared.Joining.TheVariants.{Or};
 ghost use Rattle.literals.specs.Literals.{value_of, LiteralFits};

@@ -1,1 +1,2 @@
 // Guarantees: what a predicate asks of a column's values as a set.
+#![tactic(auto)]

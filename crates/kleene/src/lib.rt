@@ -1,4 +1,6 @@
 // Three-valued logic by constant tables.
+#![tactic(auto)]
+
 ghost use Rattle.std.specs.Prelude.{◌≡◌, ◌<◌};
 ghost use Rattle.kleene.specs.Truths.{place_of, kleene_and, kleene_or, kleene_not, kleene};
 

@@ -1,4 +1,6 @@
 // What the rewriting of a node comes to: false, true or open. Nothing is written.
+#![tactic(auto)]
+
 ghost use Rattle.std.specs.Prelude.{◌≡◌, ◌+◌, ◌≤◌, ◌<◌, length};
 ghost use Rattle.limits.specs.Limits.{max_literal_bytes};
 ghost use Rattle.words.specs.Word.{words_of, range_of};

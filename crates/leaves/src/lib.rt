@@ -1,4 +1,6 @@
 // What each kind of node asks for, listed at the front of a lent buffer.
+#![tactic(auto)]
+
 ghost use Rattle.std.specs.Prelude.{◌≡◌, ◌+◌, ◌^◌, ◌<◌};
 ghost use Rattle.words.specs.Word.{words_of};
 ghost use Rattle.literals.specs.Literals.{value_of};

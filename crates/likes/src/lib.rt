@@ -1,4 +1,6 @@
 // The form of LIKE, written into a lent table and a lent literal pool.
+#![tactic(auto)]
+
 ghost use Rattle.std.specs.Prelude.{◌≡◌, ◌^◌, ◌<◌, length};
 ghost use Rattle.literals.specs.declared.Literal.TheVariants.{Text};
 ghost use Rattle.table.specs.Comparisons.{wrapped, like_form};

@@ -1,4 +1,5 @@
 // Every limit, room and refusal number of document 01, for the code; specs/Limits.antt has the same for the definitions.
+#![tactic(auto)]
 
 // Limits.
 pub const MAX_COLUMNS: usize = 64;

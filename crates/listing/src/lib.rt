@@ -1,4 +1,6 @@
 // The statistics list, kept at the front of a lent buffer.
+#![tactic(auto)]
+
 ghost use Rattle.std.specs.Prelude.{◌≡◌, [], ◌∷◌, ◌<◌};
 ghost use Rattle.operators.specs.declared.Operator.TheVariants.{Equal, Distinct};
 ghost use Rattle.statistics.specs.declared.Statistic.TheVariants.{Blanks, Rows};

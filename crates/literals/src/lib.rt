@@ -1,4 +1,6 @@
 // Literals: null, integer, text or truth value; their words, and integers of 64 bits.
+#![tactic(auto)]
+
 ghost use Rattle.std.specs.Prelude.{◌≡◌, [], ◌∷◌, ◌^◌, ◌<◌};
 ghost use Rattle.literals.specs.Signed.{signed, bits_of, negated, int_order};
 ghost use Rattle.words.specs.Layout.{packed};

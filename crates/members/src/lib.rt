@@ -1,4 +1,6 @@
 // The table of a list, IN or NOT IN, written: the joins first, then the members that stay, in order.
+#![tactic(auto)]
+
 ghost use Rattle.std.specs.Prelude.{◌≡◌, [], ◌∷◌, ◌+◌, ◌≤◌, ◌<◌, length, replicate};
 ghost use Rattle.words.specs.Word.{words_of};
 ghost use Rattle.literals.specs.Literals.{value_of, LiteralFits};

@@ -1,4 +1,6 @@
 // The comparison operators: their codes, each one's swap, and what each asks of an order.
+#![tactic(auto)]
+
 ghost use Rattle.std.specs.Prelude.{◌≡◌};
 ghost use Rattle.words.specs.declared.Order.TheVariants.{Less, Equal as Same, Greater};
 ghost use Rattle.operators.specs.Operators.{operator_of, code_of, swap_of, holds};

@@ -1,1 +1,2 @@
 // Total orders and the forms over them: definitions and theorems, no function.
+#![tactic(auto)]

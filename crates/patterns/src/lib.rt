@@ -1,4 +1,6 @@
 // LIKE's table, written from its pattern: prefix and upper bound are made in local buffers.
+#![tactic(auto)]
+
 ghost use Rattle.std.specs.Prelude.{false, ◌^◌, ◌≤◌, ◌<◌, length};
 ghost use Rattle.limits.specs.Limits.{max_literal_bytes};
 ghost use Rattle.literals.specs.Literals.{value_of};

@@ -1,4 +1,6 @@
 // Predicates: columns, and the nodes that their words stand for.
+#![tactic(auto)]
+
 ghost use Rattle.std.specs.Prelude.{◌≡◌};
 ghost use Rattle.words.specs.Word.{words_of};
 ghost use Rattle.operators.specs.Operators.{operator_of};

@@ -1,4 +1,6 @@
 // Guarantees: which node gives one, its word, and those of a predicate in prefix order, written into a lent buffer.
+#![tactic(auto)]
+
 ghost use Rattle.std.specs.Prelude.{◌≡◌, ◌+◌, ◌^◌, ◌<◌};
 ghost use Rattle.words.specs.Word.{words_of};
 ghost use Rattle.predicate.specs.Predicates.{node_at, predicate_at};

@@ -1,4 +1,6 @@
 // Nodes of rewritten tables, and the word lists of a checked table.
+#![tactic(auto)]
+
 ghost use Rattle.std.specs.Prelude.{◌≡◌, drop};
 ghost use Rattle.words.specs.Word.{words_of};
 ghost use Rattle.operators.specs.Operators.{operator_of};

@@ -3,6 +3,8 @@
 //
 // A line is: rewrite, schema, predicate, pool, list limit, the four rooms, answer; apart by one space. Bytes are hex, - if there are
 // none; XX*N. stands for N times byte XX.
+#![tactic(auto)]
+
 ghost use Rattle.std.specs.Prelude.{◌+◌, ◌≤◌, ◌<◌, length};
 ghost use Rattle.replay_refusals.specs.Reading.{Leads};
 

@@ -1,4 +1,6 @@
 // Whole rewriting and whole pruning, and the number of the packed format.
+#![tactic(auto)]
+
 ghost use Rattle.std.specs.Prelude.{◌≡◌, [], ◌∷◌, ◌^◌, ◌<◌, length};
 ghost use Rattle.words.specs.Layout.{packed};
 ghost use Rattle.predicate.specs.Calls.{rewrite_fault};

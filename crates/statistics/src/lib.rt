@@ -1,4 +1,6 @@
 // The statistics list, and the words of statistics.
+#![tactic(auto)]
+
 ghost use Rattle.std.specs.Prelude.{◌≡◌, ◌<◌, get_or};
 ghost use Rattle.words.specs.Word.{words_of};
 ghost use Rattle.statistics.specs.declared.Statistic.TheVariants.{Rows};

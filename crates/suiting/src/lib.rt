@@ -1,4 +1,6 @@
 // Literal words for a column of a type: in a table, and as cells.
+#![tactic(auto)]
+
 ghost use Rattle.std.specs.Prelude.{◌≡◌};
 ghost use Rattle.literals.specs.Literals.{integer_type, text_type, truth_type};
 ghost use Rattle.suiting.specs.Suiting.{fitting};

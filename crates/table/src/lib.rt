@@ -1,4 +1,5 @@
 // Rewritten tables: the forms of comparisons, and folding.
+#![tactic(auto)]
 
 // Whether a rewritten part is a constant.
 #[derive(Clone, Copy)]

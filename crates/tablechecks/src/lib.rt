@@ -1,4 +1,6 @@
 // Checked tables: all rules for a table, its statistics list and its guarantees.
+#![tactic(auto)]
+
 ghost use Rattle.std.specs.Prelude.{◌≡◌, ◌/◌, ◌<◌, length};
 ghost use Rattle.words.specs.Word.{words_of};
 ghost use Rattle.pruning.specs.TableChecking.{is_bound, is_blanks, is_rows, bound_type, table_literal, table_named, table_node_fine, check_table_from, table_fine, words_within, checked_table};

@@ -1,4 +1,6 @@
 // Text as UTF-8, and LIKE: the prefix of a pattern and what is left from its first wildcard on.
+#![tactic(auto)]
+
 ghost use Rattle.std.specs.Prelude.{◌≡◌, false, ◌+◌, ◌≤◌, length};
 ghost use Rattle.text.specs.Machine.{st, lead_of, step_of, is_utf8};
 ghost use Rattle.text.specs.Pattern.{ends_at, opens_at, prefix_of, rest_of};

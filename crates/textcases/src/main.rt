@@ -1,4 +1,6 @@
 // Document 01's text cases that are run, with some more. A line for each pattern: its bytes, prefix, rest and upper bound, in hex.
+#![tactic(auto)]
+
 ghost use Rattle.std.specs.Prelude.{◌<◌, length};
 ghost use Rattle.text.specs.Utf8.{Utf8};
 

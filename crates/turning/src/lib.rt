@@ -1,4 +1,6 @@
 // Comparisons turned: the literal to the right, the flips off the column.
+#![tactic(auto)]
+
 ghost use Rattle.std.specs.Prelude.{◌≡◌, cond};
 ghost use Rattle.operators.specs.Operators.{swap_of};
 ghost use Rattle.table.specs.Comparisons.{minuses, flip_once, truth_flips, no_flips, flipped, unturned, turned};

@@ -1,4 +1,6 @@
 // Walking over the words of a predicate.
+#![tactic(auto)]
+
 ghost use Rattle.std.specs.Prelude.{◌≡◌};
 ghost use Rattle.words.specs.Word.{words_of};
 ghost use Rattle.predicate.specs.Predicates.{predicate_at};

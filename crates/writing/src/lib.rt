@@ -1,4 +1,6 @@
 // Writers of a table's nodes into a lent table and a lent literal pool.
+#![tactic(auto)]
+
 ghost use Rattle.std.specs.Prelude.{◌≡◌, List, [], ◌∷◌, ℕ, ◌+◌, ◌^◌, ◌≤◌, ◌<◌, length};
 ghost use Rattle.std.proofs.lemmas.List.Edits.{sets};
 ghost use Rattle.literals.specs.Literals.{LiteralFits, value_of, value_bytes, value_word, bit_of};

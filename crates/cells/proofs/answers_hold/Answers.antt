@@ -1,0 +1,20 @@
+-- A count of containers times one of guarantees fits.
+use borrow.Author.Rules.{rules}
+use native.Mathlib.Omega.{arith}
+use borrow.Author.Tests.{eq-eqb, ne_eqb}
+use Rattle.cells.specs.Grids.{held}
+use Rattle.cells.proofs.answers_hold.Goals as goal
+
+mul-result : tie.Need-overflow-mul-result
+mul-result c =
+    let h = held c.before.args.containers c.before.args.guarantees c.before.requires.0 (omega arith) in search rules
+
+-- LOOK: need overflow-mul-result not found
+
+pub returns-then-len-eq0 : goal.returns-then-len-eq0
+returns-then-len-eq0 c =
+    rw (eq-eqb _ _ c.if-len-eq0.true)
+
+pub returns : goal.returns
+returns c =
+    rw (ne_eqb _ _ c.if-len-eq0.false)

@@ -1,0 +1,7 @@
+-- Integers, or any type.
+use borrow.Author.Rules.{rules}
+use Rattle.cells.proofs.column_fine.Goals as goal
+
+pub returns-then-kind-eq-INTEGER : goal.returns-then-kind-eq-INTEGER
+returns-then-kind-eq-INTEGER c =
+    rw c.if-kind-eq-INTEGER.true c.integers_fine.ensures

@@ -1,0 +1,34 @@
+-- As many cells as containers times statistics, then the columns.
+use borrow.Author.Rules.{rules}
+use native.Mathlib.Omega.{arith}
+use mathlib.Core.Path.{sym, ◌∙◌}
+use Prim.Native.Nat.{◌/◌}
+use lib.ListN.{length}
+use Rattle.cells.specs.Grids.{held, grid_unfit, grid_fits}
+use Rattle.cells.proofs.grid_fine.Goals as goal
+
+mul-if1 : tie.Need-overflow-mul-if1
+mul-if1 c =
+    let h = held c.before.before.before.before.args.containers (length c.before.before.before.before.args.list.now / 8) c.before.before.before.before.requires.0 (omega arith) in search rules
+
+-- LOOK: need overflow-mul-if1 not found
+
+mul-if1-2 : tie.Need-overflow-mul-if1-2
+mul-if1-2 c =
+    let h = held c.before.before.before.before.args.containers (length c.before.before.before.before.args.list.now / 8) c.before.before.before.before.requires.0 (omega arith) in search rules
+
+-- LOOK: need overflow-mul-if1-2 not found
+
+pub returns-then-grid-containers : goal.returns-then-grid-containers
+returns-then-grid-containers c =
+    let a = c.args in
+    sym (grid_unfit a.schema.now a.pool.now a.list.now a.grid.now a.containers c.if-grid-containers.true)
+
+pub columns_fine-requires : goal.columns_fine-requires
+columns_fine-requires c =
+    (c.requires.1, omega (arith, c.if-grid-containers.false))
+
+pub returns : goal.returns
+returns c =
+    let a = c.args in
+    c.columns_fine.ensures ∙ sym (grid_fits a.schema.now a.pool.now a.list.now a.grid.now a.containers c.if-grid-containers.false)

@@ -1,0 +1,15 @@
+-- What is left of the column is fine or not.
+use borrow.Author.Rules.{rules}
+use native.Mathlib.Omega.{arith}
+use mathlib.Core.Path.{◌≡◌, refl, sym, ◌∙◌}
+use Prim.Native.Nat.{◌-◌, ◌+◌, ◌*◌, ◌/◌, ◌≤◌}
+use lib.ListN.{length}
+use Rattle.literals.specs.Literals.{integer_type}
+use Rattle.cells.specs.Columns.{column_from, column_end, column_faulty, column_next, column_room}
+use Rattle.cells.proofs.integers_fine.Given as goal
+
+abbrev pub invariant-loop-left : goal.invariant-loop-left
+invariant-loop-left l = (l.i + l.left * l.wide ≤ l.at + length l.grid / 8) × (column_from l.pool integer_type l.grid l.wide l.containers l.at ≡ column_from l.pool integer_type l.grid l.wide l.left l.i)
+
+abbrev pub decreases-loop-left : goal.decreases-loop-left
+decreases-loop-left l = l.left

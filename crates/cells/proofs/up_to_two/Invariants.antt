@@ -1,0 +1,14 @@
+-- What is left of the answers is up to two or not.
+use borrow.Author.Rules.{rules}
+use mathlib.Core.Path.{◌≡◌, refl, sym, ◌∙◌}
+use Prim.Native.Nat.{◌-◌}
+use lib.ListN.{length, drop}
+use Rattle.pruning.specs.Cells.{up_to_two}
+use Rattle.cells.specs.Grids.{two_end, two_faulty, two_next}
+use Rattle.cells.proofs.up_to_two.Given as goal
+
+abbrev pub invariant-loop-i : goal.invariant-loop-i
+invariant-loop-i l = up_to_two l.answers ≡ up_to_two (drop l.i l.answers)
+
+abbrev pub decreases-loop-i : goal.decreases-loop-i
+decreases-loop-i l = length l.answers - l.i

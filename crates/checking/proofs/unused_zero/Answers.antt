@@ -1,0 +1,7 @@
+-- The test decides.
+use borrow.Author.Rules.{rules}
+use Rattle.checking.proofs.unused_zero.Goals as goal
+
+pub returns-else-used : goal.returns-else-used
+returns-else-used c =
+    rw c.if-used.false

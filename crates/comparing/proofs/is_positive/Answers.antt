@@ -1,0 +1,9 @@
+-- A count is above 0 as a number.
+use borrow.Author.Rules.{rules}
+use mathlib.Core.Path.{sym, ◌∙◌}
+use Rattle.comparing.specs.Comparing.{positive_is}
+use Rattle.comparing.proofs.is_positive.Goals as goal
+
+pub returns-in-Of : goal.returns-in-Of
+returns-in-Of c =
+    rw c.in-Of.is (c.truth_of.ensures ∙ sym (positive_is c.in-Of.n))

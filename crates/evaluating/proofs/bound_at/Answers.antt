@@ -1,0 +1,7 @@
+-- The literal of the cell's word.
+use borrow.Author.Rules.{rules}
+use Rattle.evaluating.proofs.bound_at.Goals as goal
+
+pub returns : goal.returns
+returns c =
+    rw (← c.word_or_zero.ensures) c.literal_of.ensures

@@ -1,0 +1,7 @@
+-- The count of the cell's word.
+use borrow.Author.Rules.{rules}
+use Rattle.evaluating.proofs.count_in.Goals as goal
+
+pub returns : goal.returns
+returns c =
+    rw (← c.word_or_zero.ensures) c.count_at.ensures

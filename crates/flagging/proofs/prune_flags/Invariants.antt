@@ -1,0 +1,20 @@
+-- After i turns the first i flags are stored.
+use borrow.Author.Rules.{rules}
+use native.Mathlib.Omega.{arith}
+use mathlib.Core.Path.{◌≡◌, refl, ◌∙◌}
+use Prim.Native.Nat.{◌-◌, ◌+◌, ◌*◌, ◌/◌, ◌≤◌}
+use native.Mathlib.Nat.{le_antisymm}
+use lib.ListN.{length, length-set}
+use lib.Seq.{sets}
+use Rattle.flagging.specs.Flags.{width, flags_for, flags_none, flag_at, flag_stored, next_row, one_more, few_answers}
+use Rattle.flagging.proofs.prune_flags.Given as goal
+
+abbrev pub invariant-loop-i : goal.invariant-loop-i
+invariant-loop-i l = (l.i ≤ l.containers)
+    × (l.from ≡ l.i * width l.list)
+    × (l.at ≡ l.i * (length l.guarantees / 8))
+    × (l.flags ≡ sets l.initial.flags 0 (flags_for l.list l.pool l.table l.guarantees l.cells l.grid l.answers 0 l.i))
+    × (length l.flags ≡ length l.initial.flags)
+
+abbrev pub decreases-loop-i : goal.decreases-loop-i
+decreases-loop-i l = l.containers - l.i

@@ -1,0 +1,13 @@
+-- The walk from the last byte leads where the walk from i leads.
+use borrow.Author.Rules.{rules}
+use mathlib.Core.Path.{◌≡◌, refl, sym, ◌∙◌}
+use Prim.Native.Nat.{◌-◌, ◌<◌}
+use Rattle.increment.specs.Walk.{start_at}
+use Rattle.increment.proofs.Walk.{start_stops, start_goes, start_zero}
+use Rattle.increment.proofs.last_start.Given as goal
+
+abbrev pub invariant-loop-i : goal.invariant-loop-i
+invariant-loop-i l = (l.i < l.end) × (start_at l.s (l.end - 1) ≡ start_at l.s l.i)
+
+abbrev pub decreases-loop-i : goal.decreases-loop-i
+decreases-loop-i l = l.i

@@ -1,0 +1,14 @@
+-- Stores one after the other.
+use borrow.Author.Rules.{rules}
+use native.Mathlib.Omega.{arith}
+use native.Mathlib.Numerals.{towards_suc}
+use lib.ListN.{length-set}
+use Rattle.increment.proofs.put_2.Goals as goal
+
+pub bounds-out-at-2 : goal.bounds-out-at-2
+bounds-out-at-2 c =
+    simp length-set (omega arith)
+
+pub returns : goal.returns
+returns c =
+    simp towards_suc

@@ -1,0 +1,24 @@
+-- What the members come to is what those before i come to, joined with those from i on.
+use borrow.Author.Rules.{rules}
+use mathlib.Core.Path.{◌≡◌, sym, ◌∙◌}
+use Prim.Native.Nat.{◌+◌, ◌-◌, ◌≤◌}
+use Rattle.words.specs.Word.{words_of}
+use Rattle.predicate.specs.Predicates.{values_at}
+use Rattle.table.specs.Tables.{known}
+use Rattle.table.specs.Rewriting.{nested_table}
+use Rattle.knowing.specs.Knowns.{members_known, known_nested, members_next, members_end}
+use Rattle.knowing.proofs.known_members.Goals as goal
+
+pub loop-i-init : goal.loop-i-init
+loop-i-init c =
+    (search rules, search rules, rw c.Known-member.ensures (known_nested _ _ _ _ _ _ _ _ c.requires.1))
+
+-- LOOK: no step Known-member at After-known_member (known_member)
+
+pub loop-i-preserved : goal.loop-i-preserved
+loop-i-preserved c =
+    (search rules, search rules, rw (c.join_known-k.ensures, c.list_joining.ensures, c.known_member-m.ensures) (c.loop-i.invariant.2 ∙ members_next _ _ _ _ _ _ _ _ _ _ c.loop-i-test.true))
+
+pub returns : goal.returns
+returns c =
+    sym (c.loop-i.invariant.2 ∙ members_end _ _ _ _ _ _ _ _ _ _ c.loop-i-test.false)

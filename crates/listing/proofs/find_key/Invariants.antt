@@ -1,0 +1,17 @@
+-- The place is i more than that in what is left from word i on.
+use borrow.Author.Rules.{rules}
+use mathlib.Core.Path.{◌≡◌, sym, ◌∙◌}
+use Prim.Native.Nat.{◌+◌, ◌-◌, ◌≤◌}
+use native.Mathlib.Nat.{zero-add}
+use lib.ListN.{drop}
+use Rattle.words.specs.Word.{words_of}
+use Rattle.statistics.specs.Statistics.{statistics_of}
+use Rattle.listing.specs.Listing.{list_of, key_place}
+use Rattle.listing.proofs.Laws.{place_here, place_on, place_end}
+use Rattle.listing.proofs.find_key.Given as goal
+
+abbrev pub invariant-loop-i : goal.invariant-loop-i
+invariant-loop-i l = (l.i ≤ l.n) × (key_place l.key (list_of l.list) ≡ l.i + key_place l.key (statistics_of (drop l.i (words_of l.list))))
+
+abbrev pub decreases-loop-i : goal.decreases-loop-i
+decreases-loop-i l = l.n - l.i

@@ -1,0 +1,7 @@
+-- By the offset and the length read.
+use borrow.Author.Rules.{rules}
+use Rattle.literals.proofs.is_inside.Goals as goal
+
+pub returns : goal.returns
+returns c =
+    rw (c.offset_of.ensures, c.length_of.ensures)

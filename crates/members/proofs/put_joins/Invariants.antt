@@ -1,0 +1,17 @@
+-- The words put so far, and one more.
+use borrow.Author.Rules.{rules}
+use mathlib.Core.Path.{◌≡◌, refl}
+use Prim.Native.Nat.{◌-◌, ◌≤◌}
+use native.Mathlib.Omega.{arith}
+use native.Mathlib.Nat.{le_antisymm}
+use lib.ListN.{length, replicate}
+use Rattle.table.specs.Nests.{join_word}
+use Rattle.writing.specs.Writing.{Head}
+use Rattle.members.proofs.Laws.{joins_none, joins_more, joins_room}
+use Rattle.members.proofs.put_joins.Given as goal
+
+abbrev pub invariant-loop-i : goal.invariant-loop-i
+invariant-loop-i l = (l.i ≤ l.k) × (length l.table ≡ length l.initial.table) × Head (replicate l.i (join_word l.j)) l.initial.a l.initial.table l.table l.a
+
+abbrev pub decreases-loop-i : goal.decreases-loop-i
+decreases-loop-i l = l.k - l.i

@@ -1,0 +1,17 @@
+-- Each arm asks for the order that it matched.
+use borrow.Author.Rules.{rules}
+use Rattle.operators.proofs.Operator.holds.Goals as goal
+
+pub returns-in-Less : goal.returns-in-Less
+returns-in-Less c =
+    rw c.in-Less.is c.holds_less.ensures
+
+pub returns-in-Equal : goal.returns-in-Equal
+returns-in-Equal c =
+    rw c.in-Equal.is c.Holds-same.ensures
+
+-- LOOK: no step Holds-same at After-holds_same (holds_same)
+
+pub returns-in-Greater : goal.returns-in-Greater
+returns-in-Greater c =
+    rw c.in-Greater.is c.holds_greater.ensures

@@ -1,0 +1,15 @@
+-- Some literal is not null where one of those from i on is.
+use borrow.Author.Rules.{rules}
+use mathlib.Core.Path.{◌≡◌, sym, ◌∙◌}
+use Prim.Native.Nat.{◌+◌, ◌-◌, ◌≤◌}
+use native.Mathlib.Nat.{add-zero, sub-zero}
+use Rattle.words.specs.Word.{words_of}
+use Rattle.promising.specs.Promises.{any_value}
+use Rattle.promising.proofs.Laws.{any_here, any_next, any_none}
+use Rattle.promising.proofs.any_value.Given as goal
+
+abbrev pub invariant-loop-i : goal.invariant-loop-i
+invariant-loop-i l = (l.i ≤ l.count) × (any_value (words_of l.words) l.count (l.at + 1) ≡ any_value (words_of l.words) (l.count - l.i) (l.at + 1 + l.i))
+
+abbrev pub decreases-loop-i : goal.decreases-loop-i
+decreases-loop-i l = l.count - l.i

@@ -1,0 +1,25 @@
+-- What is left of the list, from a place on, is fine or not.
+use borrow.Author.Rules.{rules}
+use mathlib.Core.Path.{◌≡◌, refl, sym, ◌∙◌}
+use Prim.Native.Nat.{◌-◌, ◌/◌}
+use lib.ListN.{length, drop}
+use Rattle.words.specs.Word.{words_of}
+use Rattle.pruning.specs.TableChecking.{guarantees_fine}
+use Rattle.pruning.specs.CheckingLaws.{guarantees_end, guarantee_faulty, guarantee_next}
+use Rattle.pruning.proofs.guarantees_fine.Goals as goal
+
+pub loop-i-init : goal.loop-i-init
+loop-i-init c =
+    refl
+
+pub returns-then-not-guarantee_fine : goal.returns-then-not-guarantee_fine
+returns-then-not-guarantee_fine c =
+    sym (c.loop-i.invariant ∙ guarantee_faulty _ _ c.loop-i-test.true _ c.word_or_zero.ensures _ c.guarantee_fine.result c.guarantee_fine.ensures c.if-not-guarantee_fine.true)
+
+pub loop-i-preserved : goal.loop-i-preserved
+loop-i-preserved c =
+    c.loop-i.invariant ∙ guarantee_next _ _ c.loop-i-test.true _ c.word_or_zero.ensures _ c.guarantee_fine.result c.guarantee_fine.ensures c.if-not-guarantee_fine.false
+
+pub returns : goal.returns
+returns c =
+    sym (c.loop-i.invariant ∙ guarantees_end _ _ c.loop-i-test.false _)

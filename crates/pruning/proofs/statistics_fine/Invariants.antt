@@ -1,0 +1,15 @@
+-- What is left of the list, from a place on, is fine or not.
+use borrow.Author.Rules.{rules}
+use mathlib.Core.Path.{◌≡◌, refl, sym, ◌∙◌}
+use Prim.Native.Nat.{◌-◌, ◌/◌}
+use lib.ListN.{length, drop}
+use Rattle.words.specs.Word.{words_of}
+use Rattle.pruning.specs.TableChecking.{statistics_fine}
+use Rattle.pruning.specs.CheckingLaws.{statistics_end, statistic_faulty, statistic_twice, statistic_next}
+use Rattle.pruning.proofs.statistics_fine.Given as goal
+
+abbrev pub invariant-loop-i : goal.invariant-loop-i
+invariant-loop-i l = statistics_fine l.schema (words_of l.list) ≡ statistics_fine l.schema (drop l.i (words_of l.list))
+
+abbrev pub decreases-loop-i : goal.decreases-loop-i
+decreases-loop-i l = length l.list / 8 - l.i

@@ -1,0 +1,7 @@
+-- The flag decides, then the byte.
+use borrow.Author.Rules.{rules}
+use Rattle.text.proofs.opens.Goals as goal
+
+pub returns-else-escaped : goal.returns-else-escaped
+returns-else-escaped c =
+    rw c.if-escaped.false

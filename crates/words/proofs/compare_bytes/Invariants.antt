@@ -1,0 +1,14 @@
+-- Both strings compare as what is left of them from i on.
+use borrow.Author.Rules.{rules}
+use mathlib.Core.Path.{◌≡◌, sym, ◌∙◌}
+use Prim.Native.Nat.{◌≤◌, ◌-◌}
+use lib.ListN.{length, drop}
+use Rattle.words.specs.Bytes.{byte_order}
+use Rattle.words.proofs.Laws.{less_at, greater_at, next_at, longer_at, shorter_at, equal_at}
+use Rattle.words.proofs.compare_bytes.Given as goal
+
+abbrev pub invariant-loop-i : goal.invariant-loop-i
+invariant-loop-i l = (l.i ≤ length l.a) × (l.i ≤ length l.b) × (byte_order l.a l.b ≡ byte_order (drop l.i l.a) (drop l.i l.b))
+
+abbrev pub decreases-loop-i : goal.decreases-loop-i
+decreases-loop-i l = length l.a - l.i

@@ -1,0 +1,44 @@
+-- Eight stores in a row are one run of stores.
+use borrow.Author.Rules.{rules}
+use native.Mathlib.Omega.{arith}
+use native.Mathlib.Numerals.{towards_suc}
+use lib.ListN.{length-set}
+use Rattle.words.specs.Word.{word_bytes}
+use Rattle.words.proofs.put_word.Goals as goal
+
+pub bounds-out-at-2 : goal.bounds-out-at-2
+bounds-out-at-2 c =
+    simp length-set (omega arith)
+
+pub bounds-out-at-3 : goal.bounds-out-at-3
+bounds-out-at-3 c =
+    simp length-set (omega arith)
+
+pub bounds-out-at-4 : goal.bounds-out-at-4
+bounds-out-at-4 c =
+    simp length-set (omega arith)
+
+pub bounds-out-at-5 : goal.bounds-out-at-5
+bounds-out-at-5 c =
+    simp length-set (omega arith)
+
+pub bounds-out-at-6 : goal.bounds-out-at-6
+bounds-out-at-6 c =
+    simp length-set (omega arith)
+
+pub bounds-out-at-7 : goal.bounds-out-at-7
+bounds-out-at-7 c =
+    simp length-set (omega arith)
+
+pub bounds-out-at-8 : goal.bounds-out-at-8
+bounds-out-at-8 c =
+    simp length-set (omega arith)
+
+pub shape_of-out : goal.shape_of-out
+shape_of-out c =
+    simp length-set
+
+pub returns : goal.returns
+unfolding word_bytes
+returns c =
+    simp towards_suc

@@ -1,0 +1,8 @@
+-- What a part from at to at + len holds.
+use borrow.Author.Rules.{rules}
+use native.Mathlib.Nat.{add-sub_cancel_left}
+use Rattle.words.proofs.range_bytes.Goals as goal
+
+pub returns : goal.returns
+returns c =
+    rw add-sub_cancel_left

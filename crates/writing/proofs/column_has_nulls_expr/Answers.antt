@@ -1,0 +1,13 @@
+-- One word.
+use borrow.Author.Rules.{rules}
+use mathlib.Core.Path.{refl}
+use Rattle.table.specs.Encoding.{pool_of, table_words}
+use Rattle.table.specs.Comparisons.{has_blanks}
+use Rattle.listing.specs.Listing.{list_of}
+use Rattle.writing.proofs.Laws.{wrote_leaf}
+use Rattle.writing.proofs.column_has_nulls_expr.Goals as goal
+
+pub returns : goal.returns
+unfolding table_words pool_of
+returns c =
+    λ pool. wrote_leaf (has_blanks c.args.c) (list_of c.args.list.now) _ _ _ _ _ pool refl refl refl (rw c.place_of-blanks.ensures at c.put_node.ensures)

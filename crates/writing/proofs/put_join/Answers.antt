@@ -1,0 +1,11 @@
+-- Each join's kind.
+use borrow.Author.Rules.{rules}
+use Rattle.writing.proofs.put_join.Goals as goal
+
+pub returns-in-And : goal.returns-in-And
+returns-in-And c =
+    rw c.in-And.is c.put_node.ensures
+
+pub returns-in-Or : goal.returns-in-Or
+returns-in-Or c =
+    rw c.in-Or.is c.put_node-in-Or.ensures

@@ -1,0 +1,7 @@
+-- The word that was made.
+use borrow.Author.Rules.{rules}
+use Rattle.writing.proofs.put_node.Goals as goal
+
+pub returns : goal.returns
+returns c =
+    rw (← c.node_word.ensures) c.put.ensures
