@@ -6,7 +6,7 @@ use mathlib.Core.List.{List, [], ◌∷◌}
 use Prim.Native.Nat.{ℕ, zero, suc, ◌+◌, ◌*◌, ◌-◌, ◌/◌, ◌≤◌, ◌<◌}
 use native.Mathlib.Omega.{arith}
 use Rattle.std.proofs.Math.ListN.{length}
-use Rattle.std.proofs.lemmas.Bool.{not_true, not_false}
+use Rattle.std.proofs.lemmas.Bool.{not-true, not-false}
 use Rattle.limits.specs.Limits.{max_statistics}
 use Rattle.words.specs.Word.{word_at, words_of}
 use Rattle.words.specs.WordLaws.{length_words, words_at}
@@ -96,10 +96,10 @@ module _ (pool : List ℕ) (type : ℕ) (gs : List ℕ) (wide : ℕ) where
     column_is (suc left) h = rw (words_at gs at k, ← g, ← c, sub-one)
 
     pub column_faulty : (left : ℕ) → 0 < left → not b ≡ true → column_from left at ≡ false
-    column_faulty left h n = column_is left h ∙ rw (not_true b n)
+    column_faulty left h n = column_is left h ∙ rw (not-true b n)
 
     pub column_next : (left : ℕ) → 0 < left → not b ≡ false → column_from left at ≡ column_from (left - 1) (at + wide)
-    column_next left h n = column_is left h ∙ rw (not_false b n)
+    column_next left h n = column_is left h ∙ rw (not-false b n)
 
 -- the room of so many cells of a column that begins at a place of the first row: for the next, and for the rest behind it
 pub column_room : (left i wide at m : ℕ) → 0 < left → at < wide → i + left * wide ≤ at + m → (i < m) × (i + wide + (left - 1) * wide ≤ at + m)
@@ -137,7 +137,7 @@ module _ (schema pool bs gs : List ℕ) (n : ℕ) where
     columns_is = rw (here, ← t, ← c)
 
     pub columns_faulty : not b ≡ true → columns_from p ≡ false
-    columns_faulty k = columns_is ∙ rw (not_true b k)
+    columns_faulty k = columns_is ∙ rw (not-true b k)
 
     pub columns_next : not b ≡ false → columns_from p ≡ columns_from (p + 1)
-    columns_next k = columns_is ∙ rw (not_false b k)
+    columns_next k = columns_is ∙ rw (not-false b k)

@@ -6,7 +6,7 @@ use Rattle.std.proofs.Math.Bool.{true, false, false≢true}
 use mathlib.Core.List.{List, [], ◌∷◌}
 use Prim.Native.Nat.{ℕ, zero, suc, ◌+◌, ◌%◌, ◌^◌, ◌≤◌, ◌<◌}
 use Rattle.std.proofs.Math.Dec.{eqb}
-use borrow.Author.Tests.{eqb-true, eqb-false, leb-true, ltb-true, le-ltb, eq-eqb, not_true}
+use borrow.Author.Tests.{eqb-true, eqb-false, leb-true, ltb-true, le-ltb, eq-eqb, not-true}
 use Rattle.limits.specs.Limits.{max_table_depth, table_room, table_pool_room, statistics_room, guarantees_room}
 use Rattle.words.specs.Layout.{packed}
 use Rattle.words.specs.LayoutLaws.{packed_fields}
@@ -205,7 +205,7 @@ module _ (schema : List ℕ) where
   head_fine w ws e =
       let a = and_both (statistic_fine schema w) (not (stands_in w ws) && statistics_fine schema ws) e in
       let b = and_both (not (stands_in w ws)) (statistics_fine schema ws) a.1 in
-      (a.0, not_true (stands_in w ws) b.0, b.1)
+      (a.0, not-true (stands_in w ws) b.0, b.1)
 
   -- a listed statistic's word stands in the list
   listed_stands : (w : ℕ) → statistic_fine schema w ≡ true → w < 2 ^ 64 → (ws : List ℕ) → statistics_fine schema ws ≡ true → AllBelow (2 ^ 64) ws

@@ -3,7 +3,7 @@
 use Rattle.std.specs.Prelude.{◌≡◌, refl, Bool, true, false, not, ◌&&◌, ◌||◌}
 use Rattle.std.proofs.Common.{sym, ◌∙◌, true≢false}
 use Rattle.std.proofs.Math.Bool.{and-eq-true_iff}
-use Rattle.std.proofs.lemmas.Bool.{not_true}
+use Rattle.std.proofs.lemmas.Bool.{not-true}
 use Rattle.operators.specs.declared.Operator.{Operator}
 use Rattle.operators.specs.declared.Operator.TheVariants.{Equal, NotEqual, Below, AtMost, Above, AtLeast, Distinct, NotDistinct}
 use Rattle.orders.specs.Order.{TotalOrder, ltb, eqb, compares, test, compares_test, compares_swap}
@@ -39,14 +39,14 @@ module _ (o : TotalOrder) where
   below_trans a b c e f = go (o.leb c a) refl
     where
       go : (x : Bool) → o.leb c a ≡ x → not x ≡ true
-      go true g = absurd (true≢false (sym (o.le_trans b c a f g) ∙ not_true (o.leb b a) e))
+      go true g = absurd (true≢false (sym (o.le_trans b c a f g) ∙ not-true (o.leb b a) e))
       go false g = refl
 
   trans_below : (a b c : o.Value) → o.leb a b ≡ true → ltb o b c ≡ true → ltb o a c ≡ true
   trans_below a b c e f = go (o.leb c a) refl
     where
       go : (x : Bool) → o.leb c a ≡ x → not x ≡ true
-      go true g = absurd (true≢false (sym (o.le_trans c a b g e) ∙ not_true (o.leb c b) f))
+      go true g = absurd (true≢false (sym (o.le_trans c a b g e) ∙ not-true (o.leb c b) f))
       go false g = refl
 
   -- ---- a value between the bounds that satisfies the comparison makes the form true
@@ -65,7 +65,7 @@ module _ (o : TotalOrder) where
         go true true e f =
             let p = (and-eq-true_iff (o.leb lo k) (o.leb k lo)).0 e in
             let q = (and-eq-true_iff (o.leb k hi) (o.leb hi k)).0 f in
-            absurd (true≢false (sym (both _ _ (o.le_trans v hi k high q.1) (o.le_trans k lo v p.1 low)) ∙ not_true (eqb o v k) h))
+            absurd (true≢false (sym (both _ _ (o.le_trans v hi k high q.1) (o.le_trans k lo v p.1 low)) ∙ not-true (eqb o v k) h))
         go true false e f = refl
         go false y e f = refl
 

@@ -8,7 +8,7 @@ use Prim.Native.Nat.{ℕ, zero, suc, ◌+◌, ◌-◌, ◌≤◌, ◌<◌}
 use Rattle.std.proofs.Math.Numerals.{sub-one}
 use Rattle.std.proofs.Math.ListN.{length, get_or-eq_default}
 use Rattle.std.proofs.Math.Dec.{eqb, leb, ltb, lit≤}
-use borrow.Author.Tests.{ltb-true, ltb-false, leb-true, leb-false, eqb-true, eqb-false, not_true, le-leb, lt-leb, eq-eqb, ne_eqb}
+use borrow.Author.Tests.{ltb-true, ltb-false, leb-true, leb-false, eqb-true, eqb-false, not-true, le-leb, lt-leb, eq-eqb, ne_eqb}
 use Rattle.limits.specs.Limits.{max_nodes, max_list_literals, max_literal_bytes, max_all_literal_bytes, max_depth, malformed, over_limit, misfit}
 use Rattle.words.specs.Tests.{and_both, or_other}
 use Rattle.literals.specs.Literals.{length_of, plain, suits, literal_of, text_type, truth_type}
@@ -185,7 +185,7 @@ flippable_says schema c flips e = record { in_schema = ltb-true _ _ a.0; unflipp
 
     still : type_in schema c.0 ≡ text_type → (t : Bool) → eqb flips 0 ≡ t → flips ≡ 0
     still k true f = eqb-true flips 0 f
-    still k false f = absurd (eqb-false _ _ (not_true _ (or_other (eqb flips 0) other a.1 f)) k)
+    still k false f = absurd (eqb-false _ _ (not-true _ (or_other (eqb flips 0) other a.1 f)) k)
 
 -- what a node's column says
 abbrev pub Columned : List ℕ → Node → Type 0

@@ -1,7 +1,7 @@
 -- The word lists of a checked table, one word at a time. Assumes nothing.
 use Rattle.std.specs.Prelude.{◌≡◌, refl, Bool, true, false, not, ◌&&◌, List, [], ◌∷◌, ℕ, ◌+◌, ◌/◌, ◌≤◌, ◌<◌, length, get_or, drop, eqb, ltb}
 use Rattle.std.proofs.Common.{◌∙◌, add-one, drop_of_length-le, drop-cons}
-use borrow.Author.Tests.{eq-eqb, ne_eqb, not_true, not_false}
+use borrow.Author.Tests.{eq-eqb, ne_eqb, not-true, not-false}
 use Rattle.words.specs.Word.{words_of}
 use Rattle.words.specs.WordLaws.{length_words}
 use Rattle.guarantees.specs.Guarantees.{zero_field, column_field}
@@ -47,17 +47,17 @@ module _ (bs : List ℕ) (i : ℕ) (h : i < length bs / 8) (x : ℕ) (e : x ≡ 
   module _ (schema : List ℕ) (b : Bool) where
     pub statistic_faulty : b ≡ statistic_fine schema x → not b ≡ true → statistics_fine schema (drop i (words_of bs)) ≡ false
     unfolding statistics_fine
-    statistic_faulty f n = rw (some_left, ← f, not_true b n)
+    statistic_faulty f n = rw (some_left, ← f, not-true b n)
 
     pub statistic_twice : b ≡ statistic_fine schema x → not b ≡ false → (t : Bool) → t ≡ stands_in x (drop (i + 1) (words_of bs)) → t ≡ true
         → statistics_fine schema (drop i (words_of bs)) ≡ false
     unfolding statistics_fine
-    statistic_twice f n t g m = rw (some_left, ← f, not_false b n, ← g, m)
+    statistic_twice f n t g m = rw (some_left, ← f, not-false b n, ← g, m)
 
     pub statistic_next : b ≡ statistic_fine schema x → not b ≡ false → (t : Bool) → t ≡ stands_in x (drop (i + 1) (words_of bs)) → t ≡ false
         → statistics_fine schema (drop i (words_of bs)) ≡ statistics_fine schema (drop (i + 1) (words_of bs))
     unfolding statistics_fine
-    statistic_next f n t g m = rw (some_left, ← f, not_false b n, ← g, m)
+    statistic_next f n t g m = rw (some_left, ← f, not-false b n, ← g, m)
 
     guarantees_cons : guarantees_fine schema (drop i (words_of bs)) ≡ (guarantee_fine schema x && guarantees_fine schema (drop (i + 1) (words_of bs)))
     unfolding guarantees_fine
@@ -66,8 +66,8 @@ module _ (bs : List ℕ) (i : ℕ) (h : i < length bs / 8) (x : ℕ) (e : x ≡ 
         (guarantee_splits (eqb (zero_field x) 0) (ltb (column_field x) (length schema)) (guarantees_fine schema (drop (i + 1) (words_of bs))))
 
     pub guarantee_faulty : b ≡ guarantee_fine schema x → not b ≡ true → guarantees_fine schema (drop i (words_of bs)) ≡ false
-    guarantee_faulty f n = guarantees_cons ∙ rw (← f, not_true b n)
+    guarantee_faulty f n = guarantees_cons ∙ rw (← f, not-true b n)
 
     pub guarantee_next : b ≡ guarantee_fine schema x → not b ≡ false
         → guarantees_fine schema (drop i (words_of bs)) ≡ guarantees_fine schema (drop (i + 1) (words_of bs))
-    guarantee_next f n = guarantees_cons ∙ rw (← f, not_false b n)
+    guarantee_next f n = guarantees_cons ∙ rw (← f, not-false b n)

@@ -6,7 +6,7 @@ use Rattle.std.proofs.Math.Bool.{true, false, and-eq-true_iff}
 use Rattle.std.proofs.Math.Logic.{inl, inr, ⊎_elim}
 use Rattle.std.proofs.Math.Option.{Option, some, none}
 use native.Mathlib.Omega.{arith}
-use Rattle.std.proofs.lemmas.Bool.{not_false}
+use Rattle.std.proofs.lemmas.Bool.{not-false}
 use Rattle.words.specs.declared.Order.{Order}
 use Rattle.words.specs.declared.Order.TheVariants.{Less, Equal as Same, Greater}
 use Rattle.operators.specs.declared.Operator.{Operator}
@@ -77,13 +77,13 @@ counted o (int z) (int y) m n f g e = rw (← f, ← g) (truth_false (compares n
 
 same_count : (m n : ℕ) → compares numbers NotEqual (pos m) (pos n) ≡ false → m ≡ n
 same_count m n e =
-    let h = (and-eq-true_iff (leb m n) (leb n m)).0 (not_false (leb m n && leb n m) (sym (compares_test numbers NotEqual (pos m) (pos n)) ∙ e)) in
+    let h = (and-eq-true_iff (leb m n) (leb n m)).0 (not-false (leb m n && leb n m) (sym (compares_test numbers NotEqual (pos m) (pos n)) ∙ e)) in
     let a = leb-true m n h.0 in
     let b = leb-true n m h.1 in
     omega arith
 
 no_count : (m : ℕ) → compares numbers Above (pos m) (pos 0) ≡ false → m ≡ 0
-no_count m e = let a = leb-true m 0 (not_false (leb m 0) (sym (compares_test numbers Above (pos m) (pos 0)) ∙ e)) in omega arith
+no_count m e = let a = leb-true m 0 (not-false (leb m 0) (sym (compares_test numbers Above (pos m) (pos 0)) ∙ e)) in omega arith
 
 -- ---- bounds that may be absent
 

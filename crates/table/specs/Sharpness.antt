@@ -9,7 +9,7 @@ use native.Mathlib.Omega.{arith}
 use Rattle.std.proofs.Math.Dec.{eqb, leb}
 use Rattle.std.proofs.Math.IntN.{pos}
 use Rattle.std.specs.Int.Signed.{le_z}
-use borrow.Author.Tests.{eqb-true, eqb-false, leb-true, leb-false, le-leb, not_true, not_false}
+use borrow.Author.Tests.{eqb-true, eqb-false, leb-true, leb-false, le-leb, not-true, not-false}
 use Rattle.operators.specs.declared.Operator.{Operator}
 use Rattle.operators.specs.declared.Operator.TheVariants.{Equal, NotEqual, Below, AtMost, Above, AtLeast, Distinct, NotDistinct}
 use Rattle.kleene.specs.declared.Truth.{Truth}
@@ -286,13 +286,13 @@ module _ (c : Column) (cells : Cells) (s : Summary c cells) where
   unfolding some_values
   values_there e =
       let f = s.fewer in
-      let h = not_true (leb s.blanks s.rows && leb s.rows s.blanks) (sym (compares_test numbers NotEqual (pos s.blanks) (pos s.rows)) ∙ e) in
+      let h = not-true (leb s.blanks s.rows && leb s.rows s.blanks) (sym (compares_test numbers NotEqual (pos s.blanks) (pos s.rows)) ∙ e) in
       let q = leb-false s.rows s.blanks (rw (le-leb s.blanks s.rows f) at h) in
       omega arith
 
   blanks_there : compares numbers Above (pos s.blanks) (pos 0) ≡ true → 0 < s.blanks
   blanks_there e =
-      let q = leb-false s.blanks 0 (not_true (leb s.blanks 0) (sym (compares_test numbers Above (pos s.blanks) (pos 0)) ∙ e)) in omega arith
+      let q = leb-false s.blanks 0 (not-true (leb s.blanks 0) (sym (compares_test numbers Above (pos s.blanks) (pos 0)) ∙ e)) in omega arith
 
   -- a wrapped form that is not false is met by a value between the bounds
   wrapped_met : (o : Operator) (k : ℤ) (inner : Truth) → inner ≡ truth_of (form numbers o s.least s.greatest k)
@@ -320,7 +320,7 @@ module _ (c : Column) (cells : Cells) (s : Summary c cells) where
       go : (b : Bool) → compares numbers NotEqual (pos s.blanks) (pos s.rows) ≡ b → (b ≡ true) ⊎ (0 < s.blanks)
       go true e = inl refl
       go false e =
-          let h = not_false (leb s.blanks s.rows && leb s.rows s.blanks) (sym (compares_test numbers NotEqual (pos s.blanks) (pos s.rows)) ∙ e) in
+          let h = not-false (leb s.blanks s.rows && leb s.rows s.blanks) (sym (compares_test numbers NotEqual (pos s.blanks) (pos s.rows)) ∙ e) in
           let q = leb-true s.rows s.blanks ((and-eq-true_iff (leb s.blanks s.rows) (leb s.rows s.blanks)).0 h).1 in
           let p = s.some_rows in
           inr (omega arith)

@@ -1,7 +1,7 @@
 -- The order of byte strings: first difference first, a shorter one below what continues it. Assumes nothing.
 use Rattle.std.specs.Prelude.{◌≡◌, refl, Bool, true, false, cond, not, List, [], ◌∷◌, ◌++◌, ◌⊎◌, ℕ, ◌<◌, ltb}
 use Rattle.std.proofs.Common.{sym, ◌∙◌, ap, true≢false, inl, inr, ⊎_elim, arith, lt-ltb, le-ltb, ltb-true, ltb-false}
-use Rattle.std.proofs.lemmas.Bool.{not_false}
+use Rattle.std.proofs.lemmas.Bool.{not-false}
 use Rattle.words.specs.declared.Order.{Order}
 use Rattle.words.specs.declared.Order.TheVariants.{Less, Equal, Greater}
 
@@ -70,7 +70,7 @@ up_to_refl a = rw (below_irrefl a)
 
 pub up_to_total : (a b : List ℕ) → up_to a b ≡ false → up_to b a ≡ true
 unfolding up_to
-up_to_total a b e = rw (below_asym b a (not_false (below b a) e))
+up_to_total a b e = rw (below_asym b a (not-false (below b a) e))
 
 up_to_nil : (b : List ℕ) → up_to [] b ≡ true
 up_to_nil b = front_up_to [] b

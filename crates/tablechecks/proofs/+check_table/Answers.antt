@@ -4,7 +4,7 @@ use mathlib.Core.Path.{◌≡◌, sym, ◌∙◌}
 use mathlib.Core.Bool.{true}
 use Prim.Native.Nat.{ℕ, ◌<◌, ◌-◌, ◌/◌}
 use lib.ListN.{length}
-use borrow.Author.Tests.{not_true, not_false}
+use borrow.Author.Tests.{not-true, not-false}
 use Rattle.words.specs.Word.{words_of}
 use Rattle.pruning.specs.declared.TableNode.{TableNode}
 use Rattle.pruning.specs.TableChecking.{table_node_fine, table_behind, check_table_from}
@@ -17,7 +17,7 @@ use Rattle.tablechecks.proofs.+check_table.Goals as goal
 
 fine-at : (t : ℕ) (c : check-table-lts.Else2 (check-table-cs t) (check-table-at t) check-table.Post)
     → let a = c.before.before.before.before.before.before.before.args in table_node_fine a.schema.now (list_of a.list.now) a.pool.now (words_of a.table.now) a.at ≡ true
-fine-at t c = sym c.before.table-node-fine.ensures ∙ not_false c.before.table-node-fine.result c.if2.false
+fine-at t c = sym c.before.table-node-fine.ensures ∙ not-false c.before.table-node-fine.result c.if2.false
 
 -- LOOK: helper
 
@@ -86,7 +86,7 @@ returns-then-depth-eq0 t c =
 
 pub returns-then-not-table_node_fine : goal.returns-then-not-table_node_fine
 returns-then-not-table_node_fine t c =
-    sym (check_faulty _ _ _ _ _ _ (sym c.table_node_fine.ensures ∙ not_true c.table_node_fine.result c.if-not-table_node_fine.true))
+    sym (check_faulty _ _ _ _ _ _ (sym c.table_node_fine.ensures ∙ not-true c.table_node_fine.result c.if-not-table_node_fine.true))
 
 pub returns-in-Always : goal.returns-in-Always
 returns-in-Always t c =

@@ -4,7 +4,7 @@ use mathlib.Core.Path.{◌≡◌, sym, ◌∙◌}
 use mathlib.Core.Bool.{true}
 use Prim.Native.Nat.{ℕ, ◌<◌, ◌-◌, ◌/◌}
 use lib.ListN.{length}
-use borrow.Author.Tests.{not_true, not_false}
+use borrow.Author.Tests.{not-true, not-false}
 use Rattle.words.specs.Word.{words_of}
 use Rattle.pruning.specs.declared.TableNode.{TableNode}
 use Rattle.pruning.specs.TableChecking.{table_node_fine, table_behind, check_table_from}
