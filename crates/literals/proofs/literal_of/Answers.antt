@@ -14,7 +14,7 @@ returns-in-0 c =
 
 pub returns-in-1 : goal.returns-in-1
 returns-in-1 c =
-    rw (to_z-of_z w64 c.of_word.result (sfits_of c.of_word.type-inv), c.of_word.ensures, c.padded_word.ensures, c.offset_of-at.ensures)
+    rw (to_z-of_z w64 c.of_word.result (sfits_of c.of_word.type_inv), c.of_word.ensures, c.padded_word.ensures, c.offset_of-at.ensures)
     (sym (literal_int c.args.pool.now c.args.w (sym c.type_of.ensures ∙ c.in-1.is)))
 
 pub returns-in-2 : goal.returns-in-2

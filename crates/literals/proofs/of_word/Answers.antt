@@ -15,11 +15,9 @@ use Rattle.literals.proofs.of_word.Goals as goal
 down : (k : ℕ) → k < 2 ^ 63 → negsuc 0 -ℤ to_z w64 k ≡ negsuc k
 down k h = rw (to_z_pos w64 h) (minus k)
 
-sub-result : tie.Need-overflow-sub-result
-sub-result c =
-    rw (down (2 ^ 64 - 1 - c.before.args.w) (omega arith)) (record { sfits = omega arith })
-
--- LOOK: need overflow-sub-result not found
+pub overflow_sub-result : goal.overflow_sub-result
+overflow_sub-result c =
+    rw (down (2 ^ 64 - 1 - c.args.w) (omega arith)) (record { sfits = omega arith })
 
 pub returns-then-w-lt9223372036854775808 : goal.returns-then-w-lt9223372036854775808
 returns-then-w-lt9223372036854775808 c =

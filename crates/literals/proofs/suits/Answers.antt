@@ -6,11 +6,6 @@ use native.Mathlib.Omega.{arith}
 use Rattle.literals.specs.Literals.{type_of, truth_type, suits}
 use Rattle.literals.proofs.suits.Goals as goal
 
-three : (c : tie.At-match-rest) → type_of c.before.before.before.args.w ≡ truth_type
-three c = omega arith
-
--- LOOK: helper
-
 pub returns-then-kind-ne-INTEGER : goal.returns-then-kind-ne-INTEGER
 unfolding suits
 returns-then-kind-ne-INTEGER c =
@@ -29,16 +24,14 @@ returns-then-kind-ne-TEXT c =
 pub returns-then-kind-ne-TRUTH : goal.returns-then-kind-ne-TRUTH
 unfolding suits
 returns-then-kind-ne-TRUTH c =
-    rw (three c.before, ne_eqb _ _ c.if-kind-ne-TRUTH.true)
-
--- LOOK: place passed on
+    let three : type_of c.args.w ≡ truth_type = omega arith in
+    rw (three, ne_eqb _ _ c.if-kind-ne-TRUTH.true)
 
 pub returns-then-length_of-ne0 : goal.returns-then-length_of-ne0
 unfolding suits
 returns-then-length_of-ne0 c =
-    rw (three c.before.before.before, eq-eqb _ _ c.if-kind-ne-TRUTH.false, ← c.length_of-in_default.ensures, ne_eqb _ _ c.if-length_of-ne0.true)
-
--- LOOK: place passed on
+    let three : type_of c.args.w ≡ truth_type = omega arith in
+    rw (three, eq-eqb _ _ c.if-kind-ne-TRUTH.false, ← c.length_of-in_default.ensures, ne_eqb _ _ c.if-length_of-ne0.true)
 
 pub returns-in-0 : goal.returns-in-0
 unfolding suits
@@ -58,6 +51,5 @@ returns-else-kind-ne-TEXT c =
 pub returns-else-length_of-ne0 : goal.returns-else-length_of-ne0
 unfolding suits
 returns-else-length_of-ne0 c =
-    rw (three c.before.before.before.before, eq-eqb _ _ c.if-kind-ne-TRUTH.false, eq-eqb _ _ (sym c.length_of-in_default.ensures ∙ c.if-length_of-ne0.false), c.offset_of.ensures)
-
--- LOOK: place passed on
+    let three : type_of c.args.w ≡ truth_type = omega arith in
+    rw (three, eq-eqb _ _ c.if-kind-ne-TRUTH.false, eq-eqb _ _ (sym c.length_of-in_default.ensures ∙ c.if-length_of-ne0.false), c.offset_of.ensures)

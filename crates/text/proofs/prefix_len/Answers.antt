@@ -10,12 +10,10 @@ use Rattle.text.specs.Pattern.{prefix_of, last}
 use Rattle.text.proofs.Laws.{prefix_ends, prefix_opens, prefix_keeps, prefix_last}
 use Rattle.text.proofs.prefix_len.Goals as goal
 
-add-result : tie.Need-overflow-add-result invariant-loop decreases-loop
-add-result c =
-    let h = rw c.if3.true at c.before.before.loop.invariant.1 in
+pub overflow_add-result : goal.overflow_add-result
+overflow_add-result c =
+    let h = rw c.if-escaped.true at c.loop-i.invariant.1 in
     omega arith
-
--- LOOK: need overflow-add-result not found
 
 pub loop-i-init : goal.loop-i-init
 loop-i-init c =

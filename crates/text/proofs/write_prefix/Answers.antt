@@ -11,18 +11,6 @@ use Rattle.text.specs.Pattern.{prefix_of}
 use Rattle.text.proofs.Laws.{prefix_ends, prefix_opens, prefix_keeps, prefix_last}
 use Rattle.text.proofs.write_prefix.Goals as goal
 
-add-n : tie.Need-overflow-add-n invariant-loop decreases-loop
-add-n c =
-    let h = slice-write-out c in omega arith
-
--- LOOK: need overflow-add-n not found
-
-add-result : tie.Need-overflow-add-result invariant-loop decreases-loop
-add-result c =
-    let h = slice-write-out-2 c in omega arith
-
--- LOOK: need overflow-add-result not found
-
 pub returns-then-ends : goal.returns-then-ends
 returns-then-ends c =
     let l = c.loop-i in
