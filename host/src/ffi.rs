@@ -1,4 +1,4 @@
-//! The C functions of libspill.a. All unsafe code of the package stands in this file.
+//! The two C functions of libspill.a. All unsafe code of the package stands in this file.
 //!
 //! A slice is passed as a pointer and a length. Each call below passes Rust slices, so every pointer is good for
 //! its length, and no output overlaps an input or another output: a `&mut` slice is the only one of its bytes.
@@ -6,8 +6,6 @@
 use crate::raw::{PruneInput, RewriteInput, RewriteOutput};
 
 unsafe extern "C" {
-    fn spill_version() -> u64;
-
     fn spill_rewrite(
         schema: *const u8,
         schema_len: usize,
@@ -47,12 +45,6 @@ unsafe extern "C" {
         flags: *mut u8,
         flags_len: usize,
     ) -> u64;
-}
-
-/// Calls `spill_version`; returns the number of the packed format.
-pub(crate) fn version() -> u64 {
-    // SAFETY: it takes nothing and reads nothing.
-    unsafe { spill_version() }
 }
 
 /// Calls `spill_rewrite`; returns its answer word.

@@ -22,51 +22,36 @@
 //! ```
 //!
 //! - [`Schema`], [`Predicate`] (begun with [`col`], or read by [`formula`]), [`Plan`], [`Block`]: by column name.
-//! - [`PruningStatistics`]: the same, statistics column by column. [`from_datafusion`] is for who comes from there.
-//! - [`Table`]: what a plan makes of a predicate, to be shown.
-//! - [`files`]: files of rows in blocks and of summaries, over [`csv`].
-//! - [`limits`]: what a predicate may have, and the check that says where one has more.
+//! - [`rows`]: a file of rows in blocks, and its summaries.
 //! - [`packed`]: the two calls over packed bytes, safe, with refusals as errors. [`Packed`] packs a predicate.
 //! - [`raw`]: the same over the caller's own buffers, answers as they come.
+//! - [`vectors`]: the recorded answers, and their replay.
 #![deny(unsafe_code)]
 #![warn(missing_docs)]
 
-mod asked;
-mod balance;
 pub mod block;
-mod column;
-pub mod csv;
 pub mod error;
 #[allow(unsafe_code)]
 mod ffi;
-pub mod files;
 pub mod formula;
-#[doc = include_str!("../FROM-DATAFUSION.md")]
-pub mod from_datafusion {}
-mod guarantee;
-pub mod limits;
 pub mod pack;
 pub mod packed;
-mod piece;
 pub mod plan;
 pub mod predicate;
 pub mod raw;
 pub mod refusal;
+pub mod rows;
 pub mod schema;
-pub mod statistics;
-pub mod table;
 pub mod value;
+pub mod vectors;
 mod word;
 
 pub use block::{Block, Cell, Summary};
 pub use error::Error;
-pub use limits::Fault;
 pub use pack::Packed;
 pub use packed::{Grid, Rewritten, prune, rewrite};
 pub use plan::{Answer, Asked, Guarantee, Kind, Plan};
-pub use predicate::{Column, Node, Operator, Predicate, col};
+pub use predicate::{Column, Operator, Predicate, col};
 pub use refusal::Refusal;
 pub use schema::Schema;
-pub use statistics::PruningStatistics;
-pub use table::Table;
 pub use value::{ColumnType, Value};

@@ -1,9 +1,7 @@
 //! Packing a predicate into words and a literal pool, and reading it back.
 
-use crate::column::{Column, Operator};
 use crate::error::Error;
-use crate::limits::{Fault, Limit, MAX_LIST_LITERALS, What, Wrong};
-use crate::predicate::{Growing, Node, Predicate};
+use crate::predicate::{Column, Operator, Predicate};
 use crate::schema::Schema;
 use crate::value::Value;
 use crate::word::{self, NODE};
@@ -19,7 +17,7 @@ pub struct Packed {
 
 /// The fields of a node word; those that a kind has not are 0.
 #[derive(Default)]
-struct Fields {
+struct Node {
     kind: u64,
     operator: u64,
     column: u8,
@@ -29,8 +27,7 @@ struct Fields {
 }
 
 impl Packed {
-    /// Packs a predicate, node by node as it is built. Columns are looked up by name. An error says which node has no column,
-    /// or more than words can say; other limits, and types, are left to [`crate::limits::check`], or to rewriting, which refuses.
+    /// Packs a predicate. Columns are looked up by name; limits and types are left to rewriting, which refuses.
     ///
     /// ```
     /// use filughjosa::{ColumnType, Packed, Schema, col};
@@ -43,75 +40,81 @@ impl Packed {
     /// ```
     pub fn new(schema: &Schema, predicate: &Predicate) -> Result<Packed, Error> {
         let mut packed = Packed::default();
-        for (place, node) in predicate.nodes().enumerate() {
-            packed.put(schema, node).map_err(|wrong| Fault::at(place, node, wrong))?;
-        }
+        packed.put(schema, predicate)?;
         Ok(packed)
     }
 
     /// Reads the predicate back. Words that stand for nothing, or are left over, are an error with their place.
     pub fn read(&self, schema: &Schema) -> Result<Predicate, Error> {
         let mut reader = Reader { schema, words: word::words(&self.words).collect(), pool: &self.pool, at: 0 };
-        let mut growing = Growing::default();
-        while !growing.is_whole() {
-            growing.push(reader.node()?);
-        }
-        let left_over = reader.at * 8 != self.words.len();
-        growing.whole().filter(|_| !left_over).ok_or(Error::BadWord(reader.at))
+        let predicate = reader.predicate(MAX_DEPTH)?;
+        if reader.at * 8 == self.words.len() { Ok(predicate) } else { Err(Error::BadWord(reader.at)) }
     }
 
-    fn put(&mut self, schema: &Schema, node: &Node) -> Result<(), Wrong> {
-        let column = match node.column() {
-            Some(name) => schema.column(name).ok_or((None, What::NoColumn))?,
-            None => 0,
-        };
-        let fields = Fields { column, ..Fields::default() };
-        self.fields(match node {
-            Node::Constant(value) => Fields { operator: value.map_or(2, u64::from), ..fields },
-            Node::And => Fields { kind: 1, ..fields },
-            Node::Or => Fields { kind: 2, ..fields },
-            Node::Not => Fields { kind: 3, ..fields },
-            Node::Truth(_) => Fields { kind: 4, ..fields },
-            Node::IsNull(_) => Fields { kind: 5, ..fields },
-            Node::IsNotNull(_) => Fields { kind: 6, ..fields },
-            Node::Compare { column, operator, literal_first, .. } => {
+    fn put(&mut self, schema: &Schema, predicate: &Predicate) -> Result<(), Error> {
+        let number = |name: &str| schema.column(name).ok_or_else(|| Error::NoColumn(name.into()));
+        match predicate {
+            Predicate::Constant(value) => {
+                let operator = value.map_or(2, u64::from);
+                self.node(Node { operator, ..Node::default() });
+            }
+            Predicate::And(left, right) => return self.pair(schema, 1, left, right),
+            Predicate::Or(left, right) => return self.pair(schema, 2, left, right),
+            Predicate::Not(inner) => {
+                self.node(Node { kind: 3, ..Node::default() });
+                return self.put(schema, inner);
+            }
+            Predicate::Truth(name) => self.node(Node { kind: 4, column: number(name)?, ..Node::default() }),
+            Predicate::IsNull(name) => self.node(Node { kind: 5, column: number(name)?, ..Node::default() }),
+            Predicate::IsNotNull(name) => self.node(Node { kind: 6, column: number(name)?, ..Node::default() }),
+            Predicate::Compare { column, operator, literal, literal_first } => {
                 let (operator, literal_first) = (*operator as u64, *literal_first);
-                Fields { kind: 7, operator, flips: column.flips, literal_first, ..fields }
+                let node = Node { kind: 7, operator, literal_first, ..Node::default() };
+                self.node(Node { column: number(&column.name)?, flips: column.flips, ..node });
+                return self.literals(std::slice::from_ref(literal));
             }
-            Node::List { column, negated, literals } => {
-                let count = literals.len();
-                Fields { kind: 8, operator: u64::from(*negated), flips: column.flips, count, ..fields }
+            Predicate::List { column, negated, literals } => {
+                let node = Node { kind: 8, operator: u64::from(*negated), count: literals.len(), ..Node::default() };
+                self.node(Node { column: number(&column.name)?, flips: column.flips, ..node });
+                return self.literals(literals);
             }
-            Node::Like { column, negated, .. } => {
-                Fields { kind: 9, operator: u64::from(*negated), flips: column.flips, ..fields }
+            Predicate::Like { column, negated, pattern } => {
+                let node = Node { kind: 9, operator: u64::from(*negated), ..Node::default() };
+                self.node(Node { column: number(column)?, ..node });
+                return self.literals(std::slice::from_ref(pattern));
             }
-        })?;
-        node.literals().iter().enumerate().try_for_each(|(at, literal)| self.literal(at, literal))
-    }
-
-    fn fields(&mut self, node: Fields) -> Result<(), Wrong> {
-        if node.count > word::MAX_COUNT {
-            return Err((Some(MAX_LIST_LITERALS), What::Over { limit: Limit::ListLiterals, there: node.count }));
         }
-        let (flips, first, count) = (node.flips.into(), node.literal_first.into(), node.count as u64);
-        let word = word::pack(NODE, [node.kind, node.operator, node.column.into(), flips, first, count]);
-        self.words.extend_from_slice(&word.to_be_bytes());
         Ok(())
     }
 
-    fn literal(&mut self, at: usize, literal: &Value) -> Result<(), Wrong> {
-        let bytes = literal.pool_bytes();
-        let word = word::put_value(literal, &mut self.pool).ok_or_else(|| {
-            let (limit, there) = match bytes > word::MAX_LENGTH {
-                true => (Limit::LiteralBytes, bytes),
-                false => (Limit::AllLiteralBytes, self.pool.len() + bytes),
-            };
-            (Some(at), What::Over { limit, there })
-        })?;
-        self.words.extend_from_slice(&word.to_be_bytes());
+    fn pair(&mut self, schema: &Schema, kind: u64, left: &Predicate, right: &Predicate) -> Result<(), Error> {
+        self.node(Node { kind, ..Node::default() });
+        self.put(schema, left)?;
+        self.put(schema, right)
+    }
+
+    fn literals(&mut self, literals: &[Value]) -> Result<(), Error> {
+        if literals.len() > word::MAX_COUNT {
+            return Err(Error::ListTooLong);
+        }
+        for literal in literals {
+            let word = word::put_value(literal, &mut self.pool).ok_or(Error::LiteralTooLong)?;
+            self.words.extend_from_slice(&word.to_be_bytes());
+        }
         Ok(())
+    }
+
+    fn node(&mut self, node: Node) {
+        // A count past the field is an error right after, by `literals`.
+        let count = node.count.min(word::MAX_COUNT) as u64;
+        let fields =
+            [node.kind, node.operator, node.column.into(), node.flips.into(), node.literal_first.into(), count];
+        self.words.extend_from_slice(&word::pack(NODE, fields).to_be_bytes());
     }
 }
+
+/// How deep a packed predicate is read: deeper than rewriting accepts, and no danger to the stack.
+const MAX_DEPTH: usize = 256;
 
 /// The words of a packed predicate, read one by one.
 struct Reader<'a> {
@@ -134,7 +137,7 @@ impl Reader<'_> {
         word::get_value(word, self.pool).ok_or(Error::BadWord(at))
     }
 
-    fn node(&mut self) -> Result<Node, Error> {
+    fn predicate(&mut self, depth: usize) -> Result<Predicate, Error> {
         let bad = Error::BadWord(self.at);
         let ([kind, operator, column, flips, first, count], plain) = word::unpack(NODE, self.word()?);
         let unused = match kind {
@@ -145,37 +148,37 @@ impl Reader<'_> {
             8 => first,
             _ => flips + first + count,
         };
-        if !plain || unused != 0 {
+        if !plain || unused != 0 || depth == 0 {
             return Err(bad);
         }
         let name = || self.schema.name(column as u8).map(str::to_string).ok_or(bad.clone());
         let flipped = || name().map(|name| Column { name, flips: flips as u8 });
         match (kind, operator) {
-            (0, 0..=2) => Ok(Node::Constant([Some(false), Some(true), None][operator as usize])),
-            (1, _) => Ok(Node::And),
-            (2, _) => Ok(Node::Or),
-            (3, _) => Ok(Node::Not),
-            (4, _) => name().map(Node::Truth),
-            (5, _) => name().map(Node::IsNull),
-            (6, _) => name().map(Node::IsNotNull),
+            (0, 0..=2) => Ok(Predicate::Constant([Some(false), Some(true), None][operator as usize])),
+            (1, _) => Ok(self.predicate(depth - 1)? & self.predicate(depth - 1)?),
+            (2, _) => Ok(self.predicate(depth - 1)? | self.predicate(depth - 1)?),
+            (3, _) => Ok(!self.predicate(depth - 1)?),
+            (4, _) => name().map(Predicate::Truth),
+            (5, _) => name().map(Predicate::IsNull),
+            (6, _) => name().map(Predicate::IsNotNull),
             (7, 0..=7) => self.compare(flipped()?, operator, first == 1),
             (8, 0 | 1) => self.list(flipped()?, operator == 1, count),
-            (9, 0 | 1) => self.like(flipped()?, operator == 1),
+            (9, 0 | 1) => self.like(name()?, operator == 1),
             _ => Err(bad),
         }
     }
 
-    fn compare(&mut self, column: Column, operator: u64, literal_first: bool) -> Result<Node, Error> {
+    fn compare(&mut self, column: Column, operator: u64, literal_first: bool) -> Result<Predicate, Error> {
         let operator = Operator::ALL[operator as usize];
-        Ok(Node::Compare { column, operator, literal: self.literal()?, literal_first })
+        Ok(Predicate::Compare { column, operator, literal: self.literal()?, literal_first })
     }
 
-    fn list(&mut self, column: Column, negated: bool, count: u64) -> Result<Node, Error> {
+    fn list(&mut self, column: Column, negated: bool, count: u64) -> Result<Predicate, Error> {
         let literals = (0..count).map(|_| self.literal()).collect::<Result<_, _>>()?;
-        Ok(Node::List { column, negated, literals })
+        Ok(Predicate::List { column, negated, literals })
     }
 
-    fn like(&mut self, column: Column, negated: bool) -> Result<Node, Error> {
-        Ok(Node::Like { column, negated, pattern: self.literal()? })
+    fn like(&mut self, column: String, negated: bool) -> Result<Predicate, Error> {
+        Ok(Predicate::Like { column, negated, pattern: self.literal()? })
     }
 }

@@ -1,7 +1,5 @@
-//! Rewriting and pruning over packed bytes, with outputs of the right size and refusals as an error. A linked archive of
-//! another packed format is an error too, so that no byte is misread.
+//! Rewriting and pruning over packed bytes, with outputs of the right size and refusals as an error.
 
-use crate::error::Error;
 use crate::raw::{self, PruneInput, RewriteInput, RewriteOutput};
 use crate::refusal::Refusal;
 
@@ -51,18 +49,6 @@ pub struct Rewritten {
     pub guarantees: Vec<u8>,
 }
 
-impl Rewritten {
-    /// What the table is worth where it is a constant: true keeps every block, but for what answers drop, and false drops
-    /// every block.
-    pub fn constant(&self) -> Option<bool> {
-        match self.table[..] {
-            [0, 0, 0, 0, 0, 0, 0, 0] => Some(false),
-            [1, 0, 0, 0, 0, 0, 0, 0] => Some(true),
-            _ => None,
-        }
-    }
-}
-
 /// The blocks' summaries, packed for one pruning call.
 #[derive(Clone, Copy, Debug)]
 pub struct Grid<'a> {
@@ -72,39 +58,37 @@ pub struct Grid<'a> {
     pub cells: &'a [u8],
     /// The bytes that the cells point into.
     pub cell_pool: &'a [u8],
-    /// An answer for each block and guarantee, or none. Answers belong to the guarantees of the table that they go with:
-    /// bytes say nothing of the set that they were worked out for.
+    /// An answer for each block and guarantee, or none.
     pub answers: &'a [u8],
 }
 
 /// Rewrites a packed predicate.
-pub fn rewrite(schema: &[u8], predicate: &[u8], pool: &[u8], list_limit: u64) -> Result<Rewritten, Error> {
-    same_format()?;
-    let rooms = [raw::TABLE_ROOM, raw::TABLE_POOL_ROOM, raw::STATISTICS_ROOM, raw::GUARANTEES_ROOM];
-    let [mut table, mut table_pool, mut statistics, mut guarantees] = rooms.map(|room| vec![0; room]);
+pub fn rewrite(schema: &[u8], predicate: &[u8], pool: &[u8], list_limit: u64) -> Result<Rewritten, Refusal> {
+    let mut out = Rewritten {
+        table: vec![0; raw::TABLE_ROOM],
+        pool: vec![0; raw::TABLE_POOL_ROOM],
+        statistics: vec![0; raw::STATISTICS_ROOM],
+        guarantees: vec![0; raw::GUARANTEES_ROOM],
+    };
     let answer = raw::rewrite_into(
         RewriteInput { schema, predicate, pool, list_limit },
         RewriteOutput {
-            table: &mut table,
-            pool: &mut table_pool,
-            statistics: &mut statistics,
-            guarantees: &mut guarantees,
+            table: &mut out.table,
+            pool: &mut out.pool,
+            statistics: &mut out.statistics,
+            guarantees: &mut out.guarantees,
         },
     );
     let counts = Counts::read(answer)?;
-    // Copies of the fronts, so that the rooms are given back.
-    Ok(Rewritten {
-        table: table[..counts.table_words * 8].to_vec(),
-        pool: table_pool[..counts.pool_bytes].to_vec(),
-        statistics: statistics[..counts.statistics * 8].to_vec(),
-        guarantees: guarantees[..counts.guarantees * 8].to_vec(),
-    })
+    out.table.truncate(counts.table_words * 8);
+    out.pool.truncate(counts.pool_bytes);
+    out.statistics.truncate(counts.statistics * 8);
+    out.guarantees.truncate(counts.guarantees * 8);
+    Ok(out)
 }
 
-/// Prunes: a value a block, true where it must be read. The answers must be about the guarantees of `rewritten`, in their
-/// order; another predicate's answers lose rows.
-pub fn prune(schema: &[u8], rewritten: &Rewritten, grid: Grid) -> Result<Vec<bool>, Error> {
-    same_format()?;
+/// Prunes: a value a block, true where it must be read.
+pub fn prune(schema: &[u8], rewritten: &Rewritten, grid: Grid) -> Result<Vec<bool>, Refusal> {
     // More blocks than a call takes are refused whatever the flags' length: no need to allocate for them.
     let room = grid.containers.min(raw::MAX_CONTAINERS as u64) as usize;
     let mut flags = vec![0; room];
@@ -124,12 +108,6 @@ pub fn prune(schema: &[u8], rewritten: &Rewritten, grid: Grid) -> Result<Vec<boo
     );
     refused(result)?;
     Ok(flags.into_iter().map(|flag| flag != 0).collect())
-}
-
-/// An error where the archive takes another packed format than this package writes.
-fn same_format() -> Result<(), Error> {
-    let library = raw::version();
-    if library == raw::FORMAT { Ok(()) } else { Err(Error::Format { library, package: raw::FORMAT }) }
 }
 
 /// An error where a number is not 0. The library gives only document 01's numbers; another means a wrong archive.

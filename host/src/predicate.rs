@@ -1,40 +1,73 @@
-//! Predicates: their nodes in one flat row, so that no walk over them recurses, and how they are joined.
-
-pub use crate::column::{Column, Operator, col};
+//! Predicates as a tree, and the words to build one.
 
 use crate::value::Value;
-use std::collections::VecDeque;
-use std::fmt;
-use std::ops::{BitAnd, BitOr, Not};
+use std::ops::{BitAnd, BitOr, Neg, Not};
 
-/// A predicate over the columns of a schema. Any size may be built, shown and dropped; [`crate::limits`] says what
-/// rewriting takes.
+/// A comparison, with document 01's number.
+#[derive(Clone, Copy, Debug, PartialEq, Eq, Hash)]
+#[repr(u8)]
+pub enum Operator {
+    /// =
+    Equal = 0,
+    /// ≠
+    NotEqual = 1,
+    /// <
+    Less = 2,
+    /// ≤
+    LessOrEqual = 3,
+    /// \>
+    Greater = 4,
+    /// ≥
+    GreaterOrEqual = 5,
+    /// IS DISTINCT FROM: ≠ that takes NULL for a value
+    DistinctFrom = 6,
+    /// IS NOT DISTINCT FROM: = that takes NULL for a value
+    NotDistinctFrom = 7,
+}
+
+impl Operator {
+    /// Every operator, by its number.
+    pub const ALL: [Operator; 8] = [
+        Operator::Equal,
+        Operator::NotEqual,
+        Operator::Less,
+        Operator::LessOrEqual,
+        Operator::Greater,
+        Operator::GreaterOrEqual,
+        Operator::DistinctFrom,
+        Operator::NotDistinctFrom,
+    ];
+}
+
+/// A column as one side of a comparison: its name, and how often it is flipped. A flip is a minus on an integer column
+/// and a NOT on a truth value; text has none.
+#[derive(Clone, Debug, PartialEq, Eq, Hash)]
+pub struct Column {
+    /// The column's name.
+    pub name: String,
+    /// How many minuses or NOTs stand before it.
+    pub flips: u8,
+}
+
+/// A predicate over the columns of a schema.
 ///
 /// ```
 /// use filughjosa::{Predicate, col};
 /// let cheap = col("price").lt(5) & !col("sold").truth();
-/// let named = col("item").like("b%").or(col("item").is_in(["apple", "plum"]));
-/// let both: Predicate = cheap.and(named);
+/// let named = col("item").like("b%") | col("item").is_in(["apple", "plum"]);
+/// let both: Predicate = cheap & named;
 /// # let _ = both;
 /// ```
-#[derive(Clone, PartialEq, Eq, Hash)]
-pub struct Predicate {
-    /// Parts before the node that they belong to. Never empty, and always one predicate.
-    nodes: VecDeque<Node>,
-}
-
-/// One node of a predicate.
 #[derive(Clone, Debug, PartialEq, Eq, Hash)]
-#[non_exhaustive]
-pub enum Node {
+pub enum Predicate {
     /// False, true, or NULL.
     Constant(Option<bool>),
-    /// Both of two parts.
-    And,
-    /// Either of two parts.
-    Or,
-    /// Not its one part.
-    Not,
+    /// Both.
+    And(Box<Predicate>, Box<Predicate>),
+    /// Either.
+    Or(Box<Predicate>, Box<Predicate>),
+    /// Not.
+    Not(Box<Predicate>),
     /// A truth-value column by itself.
     Truth(String),
     /// The column has no value.
@@ -63,8 +96,8 @@ pub enum Node {
     },
     /// A text column against a pattern: % is any run, _ one character, a backslash makes the next character plain.
     Like {
-        /// The column; text has no flips.
-        column: Column,
+        /// The column's name.
+        column: String,
         /// NOT LIKE.
         negated: bool,
         /// The pattern, a text or null.
@@ -72,199 +105,153 @@ pub enum Node {
     },
 }
 
-impl Node {
-    /// How many parts stand under the node.
-    pub fn parts(&self) -> usize {
-        match self {
-            Node::And | Node::Or => 2,
-            Node::Not => 1,
-            _ => 0,
-        }
+/// A column, to begin a predicate with. `-col("c")` is minus the column, `!col("c")` the NOT of a truth value in a comparison.
+pub fn col(name: impl Into<String>) -> Column {
+    Column { name: name.into(), flips: 0 }
+}
+
+impl Column {
+    /// The column against a literal.
+    pub fn compare(self, operator: Operator, literal: impl Into<Value>) -> Predicate {
+        Predicate::Compare { column: self, operator, literal: literal.into(), literal_first: false }
     }
 
-    /// Whether the node joins two parts.
-    pub(crate) fn is_join(&self) -> bool {
-        self.parts() == 2
+    /// column = literal
+    pub fn eq(self, literal: impl Into<Value>) -> Predicate {
+        self.compare(Operator::Equal, literal)
     }
 
-    /// The name of the column that the node tests, if it tests one.
-    pub fn column(&self) -> Option<&str> {
-        match self {
-            Node::Constant(_) | Node::And | Node::Or | Node::Not => None,
-            Node::Truth(name) | Node::IsNull(name) | Node::IsNotNull(name) => Some(name),
-            Node::Compare { column, .. } | Node::List { column, .. } | Node::Like { column, .. } => Some(&column.name),
-        }
+    /// column ≠ literal
+    pub fn ne(self, literal: impl Into<Value>) -> Predicate {
+        self.compare(Operator::NotEqual, literal)
     }
 
-    /// The literals of the node, in order.
-    pub fn literals(&self) -> &[Value] {
-        match self {
-            Node::Compare { literal, .. } => std::slice::from_ref(literal),
-            Node::Like { pattern, .. } => std::slice::from_ref(pattern),
-            Node::List { literals, .. } => literals,
-            _ => &[],
-        }
+    /// column < literal
+    pub fn lt(self, literal: impl Into<Value>) -> Predicate {
+        self.compare(Operator::Less, literal)
     }
 
-    /// A predicate of this node, which has no parts.
-    pub(crate) fn alone(self) -> Predicate {
-        debug_assert!(self.parts() == 0);
-        Predicate { nodes: VecDeque::from([self]) }
+    /// column ≤ literal
+    pub fn le(self, literal: impl Into<Value>) -> Predicate {
+        self.compare(Operator::LessOrEqual, literal)
+    }
+
+    /// column > literal
+    pub fn gt(self, literal: impl Into<Value>) -> Predicate {
+        self.compare(Operator::Greater, literal)
+    }
+
+    /// column ≥ literal
+    pub fn ge(self, literal: impl Into<Value>) -> Predicate {
+        self.compare(Operator::GreaterOrEqual, literal)
+    }
+
+    /// column IS DISTINCT FROM literal
+    pub fn distinct_from(self, literal: impl Into<Value>) -> Predicate {
+        self.compare(Operator::DistinctFrom, literal)
+    }
+
+    /// column IS NOT DISTINCT FROM literal
+    pub fn not_distinct_from(self, literal: impl Into<Value>) -> Predicate {
+        self.compare(Operator::NotDistinctFrom, literal)
+    }
+
+    /// column IN (literals)
+    pub fn is_in<V: Into<Value>>(self, literals: impl IntoIterator<Item = V>) -> Predicate {
+        Predicate::List { column: self, negated: false, literals: literals.into_iter().map(Into::into).collect() }
+    }
+
+    /// column NOT IN (literals)
+    pub fn not_in<V: Into<Value>>(self, literals: impl IntoIterator<Item = V>) -> Predicate {
+        Predicate::List { column: self, negated: true, literals: literals.into_iter().map(Into::into).collect() }
+    }
+
+    /// column LIKE pattern. Flips of the column are left out: text has none.
+    pub fn like(self, pattern: impl Into<Value>) -> Predicate {
+        Predicate::Like { column: self.name, negated: false, pattern: pattern.into() }
+    }
+
+    /// column NOT LIKE pattern. Flips of the column are left out: text has none.
+    pub fn not_like(self, pattern: impl Into<Value>) -> Predicate {
+        Predicate::Like { column: self.name, negated: true, pattern: pattern.into() }
+    }
+
+    /// column IS NULL. Flips change nothing here.
+    pub fn is_null(self) -> Predicate {
+        Predicate::IsNull(self.name)
+    }
+
+    /// column IS NOT NULL. Flips change nothing here.
+    pub fn is_not_null(self) -> Predicate {
+        Predicate::IsNotNull(self.name)
+    }
+
+    /// A truth-value column by itself, under a NOT for each flip.
+    pub fn truth(self) -> Predicate {
+        (0..self.flips).fold(Predicate::Truth(self.name), |predicate, _| !predicate)
     }
 }
 
 impl Predicate {
-    /// A predicate that has one value on every row: false, true, or NULL.
-    pub fn constant(value: Option<bool>) -> Predicate {
-        Node::Constant(value).alone()
+    /// All of some predicates, as a balanced tree so that many stay within the depth limit; true where there are none.
+    pub fn all(parts: impl IntoIterator<Item = Predicate>) -> Predicate {
+        balanced(parts.into_iter().collect(), Predicate::And).unwrap_or(Predicate::Constant(Some(true)))
     }
 
-    /// Both this and another.
-    pub fn and(self, other: Predicate) -> Predicate {
-        self.join(other, Node::And)
-    }
-
-    /// This or another.
-    pub fn or(self, other: Predicate) -> Predicate {
-        self.join(other, Node::Or)
-    }
-
-    pub(crate) fn join(self, other: Predicate, join: Node) -> Predicate {
-        let mut nodes = append(self.nodes, other.nodes);
-        nodes.push_back(join);
-        Predicate { nodes }
-    }
-
-    /// The predicate of nodes in the order of [`Predicate::nodes`]; none where a part is missing or nodes are left over.
-    pub fn from_nodes(nodes: impl IntoIterator<Item = Node>) -> Option<Predicate> {
-        let mut growing = Growing::default();
-        for node in nodes {
-            if growing.is_whole() {
-                return None;
-            }
-            growing.push(node);
-        }
-        growing.whole()
-    }
-
-    /// The nodes in prefix order: a node, then its left part, then its right one. The packed words have the same order.
-    pub fn nodes(&self) -> impl ExactSizeIterator<Item = &Node> {
-        self.walk().0.into_iter().map(|at| &self.nodes[at])
-    }
-
-    /// The nodes with the depth of each, the root's being 1, in prefix order.
-    pub(crate) fn depths(&self) -> impl Iterator<Item = (&Node, usize)> {
-        let (order, depths) = self.walk();
-        order.into_iter().map(move |at| (&self.nodes[at], depths[at]))
-    }
-
-    /// The nodes, parts before the node that they belong to.
-    pub(crate) fn postfix(&self) -> impl Iterator<Item = &Node> {
-        self.nodes.iter()
-    }
-
-    /// The places of the nodes in prefix order, and the depth of the node at each place.
-    fn walk(&self) -> (Vec<usize>, Vec<usize>) {
-        let sizes = self.sizes();
-        let mut order = vec![0; sizes.len()];
-        let mut depths = vec![1; sizes.len()];
-        // Where each node stands in prefix order: its parts come behind it, so parents are done first.
-        let mut to = vec![0; sizes.len()];
-        for (at, node) in self.nodes.iter().enumerate().rev() {
-            order[to[at]] = at;
-            let mut end = at;
-            let mut behind = to[at] + sizes[at];
-            for _ in 0..node.parts() {
-                let part = end - 1;
-                behind -= sizes[part];
-                end -= sizes[part];
-                (to[part], depths[part]) = (behind, depths[at] + 1);
-            }
-        }
-        (order, depths)
-    }
-
-    /// For each place, how many nodes the predicate has that ends there.
-    fn sizes(&self) -> Vec<usize> {
-        let mut sizes: Vec<usize> = Vec::with_capacity(self.nodes.len());
-        for (at, node) in self.nodes.iter().enumerate() {
-            let begin = (0..node.parts()).fold(at, |end, _| end - sizes[end - 1]);
-            sizes.push(at + 1 - begin);
-        }
-        sizes
+    /// Any of some predicates, as a balanced tree; false where there are none.
+    pub fn any(parts: impl IntoIterator<Item = Predicate>) -> Predicate {
+        balanced(parts.into_iter().collect(), Predicate::Or).unwrap_or(Predicate::Constant(Some(false)))
     }
 }
 
-/// The items of both, in order. The fewer are moved, so that a long chain is built in little time from either end.
-pub(crate) fn append<T>(mut left: VecDeque<T>, mut right: VecDeque<T>) -> VecDeque<T> {
-    if left.len() >= right.len() {
-        left.append(&mut right);
-        return left;
+/// Joins neighbours until one is left, in order.
+fn balanced(mut parts: Vec<Predicate>, join: fn(Box<Predicate>, Box<Predicate>) -> Predicate) -> Option<Predicate> {
+    while parts.len() > 1 {
+        let mut joined = Vec::with_capacity(parts.len().div_ceil(2));
+        let mut rest = parts.into_iter();
+        while let Some(left) = rest.next() {
+            joined.push(match rest.next() {
+                Some(right) => join(left.into(), right.into()),
+                None => left,
+            });
+        }
+        parts = joined;
     }
-    while let Some(item) = left.pop_back() {
-        right.push_front(item);
-    }
-    right
+    parts.pop()
 }
 
-/// A predicate that grows by nodes in prefix order.
-#[derive(Default)]
-pub(crate) struct Growing {
-    nodes: VecDeque<Node>,
-    /// Nodes that wait for parts, with how many are missing.
-    open: Vec<(Node, usize)>,
+impl Neg for Column {
+    type Output = Column;
+    fn neg(self) -> Column {
+        // Past 255 the count goes two back: two flips undo each other.
+        Column { flips: self.flips.checked_add(1).unwrap_or(254), ..self }
+    }
 }
 
-impl Growing {
-    pub(crate) fn push(&mut self, node: Node) {
-        if node.parts() > 0 {
-            let parts = node.parts();
-            return self.open.push((node, parts));
-        }
-        self.nodes.push_back(node);
-        while let Some((node, missing)) = self.open.pop() {
-            if missing > 1 {
-                return self.open.push((node, missing - 1));
-            }
-            self.nodes.push_back(node);
-        }
-    }
-
-    /// Whether no part is missing.
-    pub(crate) fn is_whole(&self) -> bool {
-        self.open.is_empty() && !self.nodes.is_empty()
-    }
-
-    pub(crate) fn whole(self) -> Option<Predicate> {
-        self.is_whole().then_some(Predicate { nodes: self.nodes })
+impl Not for Column {
+    type Output = Column;
+    fn not(self) -> Column {
+        -self
     }
 }
 
 impl Not for Predicate {
     type Output = Predicate;
-    fn not(mut self) -> Predicate {
-        self.nodes.push_back(Node::Not);
-        self
+    fn not(self) -> Predicate {
+        Predicate::Not(self.into())
     }
 }
 
 impl BitAnd for Predicate {
     type Output = Predicate;
     fn bitand(self, other: Predicate) -> Predicate {
-        self.and(other)
+        Predicate::And(self.into(), other.into())
     }
 }
 
 impl BitOr for Predicate {
     type Output = Predicate;
     fn bitor(self, other: Predicate) -> Predicate {
-        self.or(other)
-    }
-}
-
-/// As a formula.
-impl fmt::Debug for Predicate {
-    fn fmt(&self, f: &mut fmt::Formatter) -> fmt::Result {
-        write!(f, "Predicate({self})")
+        Predicate::Or(self.into(), other.into())
     }
 }

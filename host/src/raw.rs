@@ -28,9 +28,6 @@
 
 use crate::ffi;
 
-/// The number of the packed format that this package writes and reads. Bytes of another are not to be handed over: check
-/// [`version`] first. [`crate::packed`] and [`crate::Plan`] do.
-pub const FORMAT: u64 = 1;
 /// Bytes that rewriting is lent for the table.
 pub const TABLE_ROOM: usize = 24_576;
 /// Bytes that rewriting is lent for the table's literal pool.
@@ -91,14 +88,8 @@ pub struct PruneInput<'a> {
     pub grid: &'a [u8],
     /// The bytes that cell words point into.
     pub cell_pool: &'a [u8],
-    /// A byte for each container and guarantee, or none at all. Answers belong to the guarantees above: nothing in a byte
-    /// says which set it was worked out for, and another predicate's answers lose rows.
+    /// A byte for each container and guarantee, or none at all.
     pub answers: &'a [u8],
-}
-
-/// The number of the packed format that the linked libspill.a takes.
-pub fn version() -> u64 {
-    ffi::version()
 }
 
 /// Rewrites a predicate into the lent buffers; returns the answer word. [`crate::packed::Counts`] reads it.

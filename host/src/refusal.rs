@@ -5,7 +5,6 @@ use std::fmt;
 
 /// Why a call was refused. A refused call has written nothing.
 #[derive(Clone, Copy, Debug, PartialEq, Eq, Hash, PartialOrd, Ord)]
-#[non_exhaustive]
 #[repr(u8)]
 pub enum Refusal {
     /// 1: over 64 columns, or an unknown column type.

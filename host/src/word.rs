@@ -8,8 +8,6 @@ pub(crate) const NODE: [u32; 6] = [4, 4, 8, 8, 1, 15];
 pub(crate) const LITERAL: [u32; 4] = [2, 14, 24, 24];
 /// The widths of a statistic's fields: column, type.
 pub(crate) const STATISTIC: [u32; 2] = [8, 2];
-/// The widths of a rewritten node's fields: kind, operator, first, second, literal-first; the rest is zero.
-pub(crate) const TABLE_NODE: [u32; 5] = [4, 4, 8, 8, 1];
 /// The widths of a guarantee's fields: column, not-in, place.
 pub(crate) const GUARANTEE: [u32; 3] = [8, 1, 16];
 

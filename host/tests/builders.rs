@@ -1,6 +1,121 @@
-//! The builders: statistics and answers by name, mistakes told apart.
+//! The builders: packing round-trips, statistics and answers by name, mistakes told apart.
 
-use filughjosa::{Answer, Asked, Block, Cell, ColumnType, Error, Kind, Plan, Refusal, Schema, Summary, Value, col};
+use filughjosa::packed;
+use filughjosa::vectors::{Line, RewriteLine};
+use filughjosa::{
+    Answer, Asked, Block, Cell, Column, ColumnType, Error, Kind, Operator, Packed, Plan, Predicate, Refusal, Schema,
+    Summary, Value, col,
+};
+use std::fs;
+
+/// The recorded calls of rewriting.
+fn recorded() -> Vec<RewriteLine> {
+    let list = concat!(env!("CARGO_MANIFEST_DIR"), "/vectors/paper.txt");
+    let text = fs::read_to_string(list).unwrap();
+    let lines = text.lines().map(|line| Line::read(line).unwrap());
+    lines.filter_map(|line| if let Line::Rewrite(rewrite) = line { Some(rewrite) } else { None }).collect()
+}
+
+/// A schema with names, for a packed one that has none.
+fn named(packed: &[u8]) -> Option<Schema> {
+    let kind =
+        |byte: u8| [ColumnType::Integer, ColumnType::Text, ColumnType::Truth].get(usize::from(byte) - 1).copied();
+    let columns: Option<Vec<_>> =
+        packed.iter().enumerate().map(|(at, byte)| Some((format!("c{at}"), kind(*byte)?))).collect();
+    Schema::new(columns?).ok()
+}
+
+#[test]
+fn recorded_predicates_are_read_and_packed_again() {
+    let mut accepted = 0;
+    for line in recorded().into_iter().filter(|line| line.answer >> 56 == 0) {
+        let schema = named(&line.schema).unwrap();
+        let source = Packed { words: line.predicate, pool: line.pool };
+        let predicate = source.read(&schema).unwrap();
+        let again = Packed::new(&schema, &predicate).unwrap();
+        assert_eq!(again.read(&schema).unwrap(), predicate);
+        // Only ranges of the pool may have moved, so what rewriting makes of it is the same.
+        let rewritten = packed::rewrite(&line.schema, &again.words, &again.pool, line.list_limit).unwrap();
+        let outputs = [rewritten.table, rewritten.pool, rewritten.statistics, rewritten.guarantees];
+        assert_eq!(outputs, line.written);
+        accepted += 1;
+    }
+    assert!(accepted > 1000);
+}
+
+#[test]
+fn malformed_words_are_not_read() {
+    let mut malformed = 0;
+    for line in recorded().into_iter().filter(|line| line.answer >> 56 == 4) {
+        let Some(schema) = named(&line.schema) else { continue };
+        let source = Packed { words: line.predicate, pool: line.pool };
+        assert!(matches!(source.read(&schema), Err(Error::BadWord(_))));
+        malformed += 1;
+    }
+    assert!(malformed > 100);
+}
+
+/// Numbers that look random and are the same in each run.
+struct Dice(u64);
+
+impl Dice {
+    fn roll(&mut self, below: u64) -> u64 {
+        self.0 = self.0.wrapping_mul(6364136223846793005).wrapping_add(1442695040888963407);
+        (self.0 >> 33) % below
+    }
+
+    fn value(&mut self) -> Value {
+        match self.roll(4) {
+            0 => Value::Null,
+            1 => Value::Integer(self.roll(1 << 30) as i64 - (1 << 29)),
+            2 => Value::Text((0..self.roll(12)).map(|_| self.roll(256) as u8).collect()),
+            _ => Value::Truth(self.roll(2) == 1),
+        }
+    }
+
+    fn name(&mut self) -> String {
+        format!("c{}", self.roll(3))
+    }
+
+    fn column(&mut self) -> Column {
+        Column { name: self.name(), flips: self.roll(3) as u8 }
+    }
+
+    fn predicate(&mut self, depth: u64) -> Predicate {
+        match self.roll(if depth == 0 { 7 } else { 10 }) {
+            0 => Predicate::Constant([Some(false), Some(true), None][self.roll(3) as usize]),
+            1 => Predicate::Truth(self.name()),
+            2 => Predicate::IsNull(self.name()),
+            3 => Predicate::IsNotNull(self.name()),
+            4 => Predicate::Compare {
+                column: self.column(),
+                operator: Operator::ALL[self.roll(8) as usize],
+                literal: self.value(),
+                literal_first: self.roll(2) == 1,
+            },
+            5 => Predicate::List {
+                column: self.column(),
+                negated: self.roll(2) == 1,
+                literals: (0..self.roll(5)).map(|_| self.value()).collect(),
+            },
+            6 => Predicate::Like { column: self.name(), negated: self.roll(2) == 1, pattern: self.value() },
+            7 => self.predicate(depth - 1) & self.predicate(depth - 1),
+            8 => self.predicate(depth - 1) | self.predicate(depth - 1),
+            _ => !self.predicate(depth - 1),
+        }
+    }
+}
+
+#[test]
+fn any_predicate_is_packed_and_read_back() {
+    let schema = named(&[1, 2, 3]).unwrap();
+    let mut dice = Dice(1);
+    for _ in 0..2000 {
+        let predicate = dice.predicate(5);
+        let packed = Packed::new(&schema, &predicate).unwrap();
+        assert_eq!(packed.read(&schema), Ok(predicate));
+    }
+}
 
 fn shop() -> Schema {
     let columns = [("price", ColumnType::Integer), ("item", ColumnType::Text), ("sold", ColumnType::Truth)];
@@ -23,7 +138,7 @@ fn cells_may_come_from_anywhere() {
         Kind::Greatest => Cell::Integer(greatest[block]),
         Kind::Blanks => Cell::Count(0),
         Kind::Rows => Cell::Count(u64::MAX),
-        _ => Cell::Absent,
+        Kind::Least => Cell::Absent,
     };
     assert_eq!(plan.keep_with(3, cell, |_, _| Answer::Unknown), Ok(vec![false, true, false]));
 }
@@ -36,7 +151,7 @@ fn answers_drop_blocks() {
     let [inside, outside] = plan.guarantees() else { panic!("two guarantees") };
     assert_eq!((inside.column.as_str(), inside.not_in, &inside.set), ("price", false, &vec![5.into(), 7.into()]));
     assert_eq!((outside.column.as_str(), outside.not_in, &outside.set), ("sold", true, &vec![true.into()]));
-    let judged = |first, second| plan.keep(&[wide().answer(inside, first).answer(outside, second)]).unwrap()[0];
+    let judged = |first, second| plan.keep(&[wide().answers([first, second])]).unwrap()[0];
     assert!(judged(Answer::Unknown, Answer::Unknown));
     assert!(judged(Answer::AllInside, Answer::NoneInside));
     assert!(!judged(Answer::NoneInside, Answer::Unknown));
@@ -79,16 +194,46 @@ fn no_blocks_at_all() {
 }
 
 #[test]
+fn many_parts_stay_within_the_depth() {
+    let schema = shop();
+    let parts = |count: i64| (0..count).map(|at| col("price").ne(at));
+    assert!(Plan::new(&schema, &Predicate::all(parts(100))).is_ok());
+    assert!(Plan::new(&schema, &Predicate::any(parts(100))).is_ok());
+    assert_eq!(Plan::new(&schema, &Predicate::all(parts(200))).err(), Some(Error::Refused(Refusal::OverLimit)));
+    let nested = parts(40).reduce(|left, right| left & right).unwrap();
+    assert_eq!(Plan::new(&schema, &nested).err(), Some(Error::Refused(Refusal::OverLimit)));
+    assert_eq!(Predicate::all([]), Predicate::Constant(Some(true)));
+    assert_eq!(Predicate::any([]), Predicate::Constant(Some(false)));
+}
+
+#[test]
 fn mistakes_are_told_apart() {
     let schema = shop();
+    let fails = |predicate: Predicate| Plan::new(&schema, &predicate).err().unwrap();
+    assert_eq!(fails(col("prize").eq(1)), Error::NoColumn("prize".into()));
+    assert_eq!(fails(col("price").eq("a")), Error::Refused(Refusal::Misfit));
+    assert_eq!(fails(col("price").truth()), Error::Refused(Refusal::Misfit));
+    assert_eq!(fails(col("item").eq("a".repeat(1025).as_str())), Error::Refused(Refusal::OverLimit));
+    assert_eq!(fails(col("item").eq("a".repeat(16_384).as_str())), Error::LiteralTooLong);
+    assert_eq!(fails(col("price").is_in(0..40_000)), Error::ListTooLong);
     let limit = Plan::with_list_limit(&schema, &col("price").eq(1), 257);
     assert_eq!(limit.err(), Some(Error::Refused(Refusal::ListLimitOrPool)));
     let plan = Plan::new(&schema, &col("price").eq(1)).unwrap();
     let wrong = plan.keep(&[Block::new(), Block::new().column("price", Summary::bounds("a", "b"))]);
-    assert_eq!(wrong, Err(Error::WrongType { block: 1, asked: plan.asked()[0].clone() }));
+    let asked = Asked { column: "price".into(), kind: Kind::Least };
+    assert_eq!(wrong, Err(Error::WrongType { block: 1, asked }));
     assert_eq!(plan.keep(&[Block::new().column("prize", Summary::unknown())]), Err(Error::NoColumn("prize".into())));
+    let answers = plan.keep(&[Block::new().answers([Answer::Unknown; 2])]);
+    assert_eq!(answers, Err(Error::WrongAnswers { block: 0, guarantees: 1 }));
     let many = Schema::new((0..65).map(|at| (format!("c{at}"), ColumnType::Text)));
     assert_eq!(many, Err(Error::TooManyColumns));
+}
+
+#[test]
+fn flips_of_a_column() {
+    assert_eq!((-col("c")).flips, 1);
+    assert_eq!((0..256).fold(col("c"), |column, _| -column).flips, 254);
+    assert_eq!((!col("c")).truth(), !col("c").truth());
 }
 
 #[test]

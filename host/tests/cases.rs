@@ -1,13 +1,9 @@
 //! Document 01's cases and its whole example, through the packed calls and through the builders.
 
-#[allow(dead_code)] // A test uses a part of it.
-#[path = "../src/bin/replay/vectors.rs"]
-mod vectors;
-
 use filughjosa::packed::{self, Grid};
 use filughjosa::raw::{self, RewriteInput, RewriteOutput};
+use filughjosa::vectors::read_bytes;
 use filughjosa::{Block, ColumnType, Kind, Packed, Plan, Predicate, Schema, Summary, Value, col, formula};
-use vectors::read_bytes;
 
 fn hex(text: &str) -> Vec<u8> {
     read_bytes(&text.replace(' ', "")).expect("hex")
@@ -142,7 +138,7 @@ fn like_and_its_upper_bound() {
 #[test]
 fn false_and_a_comparison_folds_and_lists_four_statistics() {
     let schema = column(ColumnType::Integer);
-    let plan = Plan::new(&schema, &(Predicate::constant(Some(false)) & col("c").eq(1))).unwrap();
+    let plan = Plan::new(&schema, &(Predicate::Constant(Some(false)) & col("c").eq(1))).unwrap();
     assert_eq!(plan.rewritten().table, hex("0000000000000000"));
     assert_eq!(plan.asked().len(), 4);
     assert_eq!(plan.keep(&[Block::new()]), Ok(vec![false]));

@@ -1,14 +1,10 @@
 //! Every recorded call once more, from C, each byte string against memory that must not be touched: what the library
 //! reads and writes stays within what it is lent, and inputs are only read.
 
-#[allow(dead_code)] // A test uses a part of it.
-#[path = "../src/bin/replay/vectors.rs"]
-mod vectors;
-
+use filughjosa::vectors::{Line, PruneLine, RewriteLine};
 use std::fs::{self, File};
 use std::path::{Path, PathBuf};
 use std::process::{Command, Output};
-use vectors::{Line, PruneLine, RewriteLine};
 
 /// A call as guarded.c reads it: numbers of eight bytes, and byte strings behind their lengths.
 struct Calls(Vec<u8>);

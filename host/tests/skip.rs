@@ -90,7 +90,7 @@ fn a_formula_past_a_limit_is_told() {
     let list = (0..300).map(|n| n.to_string()).collect::<Vec<_>>().join(", ");
     let done = skip(&[&format!("price IN ({list})")]);
     assert_eq!(done.status.code(), Some(1));
-    assert!(String::from_utf8(done.stderr).unwrap().contains("256 are allowed in all lists"));
+    assert!(String::from_utf8(done.stderr).unwrap().contains("256 list literals"));
 }
 
 #[test]

@@ -16,8 +16,7 @@ use writing::Spot;
 const FORMAT: u64 = 1;
 
 // The number of the packed format: a host that knows another one must not hand its bytes over.
-#[unsafe(no_mangle)]
-pub extern "C" fn spill_version() -> u64
+pub fn spill_version() -> u64
     ensures { result ≡ format }
 {
     FORMAT
@@ -67,8 +66,7 @@ fn write_outputs(
 }
 
 // Rewriting: answers the refusal, or the counts of what it writes at the front of the four outputs.
-#[unsafe(no_mangle)]
-pub extern "C" fn spill_rewrite(
+pub fn spill_rewrite(
     schema: &[u8],
     predicate: &[u8],
     pool: &[u8],
@@ -136,8 +134,7 @@ fn prune_fault(
 }
 
 // Pruning: returns 0 or the refusal; on 0 the first bytes of the flags say which containers are kept.
-#[unsafe(no_mangle)]
-pub extern "C" fn spill_prune<'a>(
+pub fn spill_prune<'a>(
     schema: &[u8],
     table: &[u8],
     table_pool: &'a [u8],

@@ -1,8 +1,8 @@
-//! Predicates written as formulas, so that reading gives them back.
+//! Predicates written as formulas, so that reading gives them back. A NOT in a comparison (a truth value's flip) and a text
+//! that is not UTF-8 are written too, though no formula reads so.
 
-use super::test::KEYWORDS;
-use crate::column::{Column, Operator};
-use crate::predicate::{Node, Predicate};
+use super::parse::KEYWORDS;
+use crate::predicate::{Column, Operator, Predicate};
 use crate::value::Value;
 use std::fmt::{Display, Formatter, Result};
 
@@ -13,55 +13,25 @@ use std::fmt::{Display, Formatter, Result};
 /// ```
 impl Display for Predicate {
     fn fmt(&self, f: &mut Formatter) -> Result {
-        // What is still to be written behind each part that has begun.
-        let mut behind: Vec<&str> = Vec::new();
-        for (at, node) in self.nodes().enumerate() {
-            if at > 0 && node.parts() > 0 {
-                f.write_str("(")?;
-                behind.push(")");
-            }
-            match node {
-                Node::And => behind.push(" AND "),
-                Node::Or => behind.push(" OR "),
-                Node::Not => f.write_str("NOT ")?,
-                leaf => {
-                    write!(f, "{leaf}")?;
-                    // Closes what ends here, up to a join that goes on with its right part.
-                    while let Some(text) = behind.pop() {
-                        f.write_str(text)?;
-                        if text != ")" {
-                            break;
-                        }
-                    }
-                }
-            }
-        }
-        Ok(())
-    }
-}
-
-/// The node alone: a test as a formula writes it, or the word of a joining.
-impl Display for Node {
-    fn fmt(&self, f: &mut Formatter) -> Result {
         match self {
-            Node::Constant(value) => write!(f, "{}", Value::from(*value)),
-            Node::And => f.write_str("AND"),
-            Node::Or => f.write_str("OR"),
-            Node::Not => f.write_str("NOT"),
-            Node::Truth(name) => write!(f, "{}", Name(name)),
-            Node::IsNull(name) => write!(f, "{} IS NULL", Name(name)),
-            Node::IsNotNull(name) => write!(f, "{} IS NOT NULL", Name(name)),
-            Node::Compare { column, operator, literal, literal_first: true } => {
-                write!(f, "{literal} {operator} {}", Side(column, self.literals()))
+            Predicate::Constant(value) => write!(f, "{}", Value::from(*value)),
+            Predicate::And(left, right) => write!(f, "{} AND {}", Part(left), Part(right)),
+            Predicate::Or(left, right) => write!(f, "{} OR {}", Part(left), Part(right)),
+            Predicate::Not(inner) => write!(f, "NOT {}", Part(inner)),
+            Predicate::Truth(name) => write!(f, "{}", Name(name)),
+            Predicate::IsNull(name) => write!(f, "{} IS NULL", Name(name)),
+            Predicate::IsNotNull(name) => write!(f, "{} IS NOT NULL", Name(name)),
+            Predicate::Compare { column, operator, literal, literal_first: true } => {
+                write!(f, "{literal} {operator} {column}")
             }
-            Node::Compare { column, operator, literal, .. } => {
-                write!(f, "{} {operator} {literal}", Side(column, self.literals()))
+            Predicate::Compare { column, operator, literal, .. } => write!(f, "{column} {operator} {literal}"),
+            Predicate::List { column, negated, literals } => {
+                let literals: Vec<String> = literals.iter().map(Value::to_string).collect();
+                write!(f, "{column} {}IN ({})", not(*negated), literals.join(", "))
             }
-            Node::List { column, negated, literals } => {
-                let shown: Vec<String> = literals.iter().map(Value::to_string).collect();
-                write!(f, "{} {}IN ({})", Side(column, literals), not(*negated), shown.join(", "))
+            Predicate::Like { column, negated, pattern } => {
+                write!(f, "{} {}LIKE {pattern}", Name(column), not(*negated))
             }
-            Node::Like { column, negated, pattern } => write!(f, "{column} {}LIKE {pattern}", not(*negated)),
         }
     }
 }
@@ -70,17 +40,15 @@ fn not(negated: bool) -> &'static str {
     if negated { "NOT " } else { "" }
 }
 
-/// A column and the literals that it stands against: its flips are NOTs where one is a truth value, else minuses.
-struct Side<'a>(&'a Column, &'a [Value]);
+/// A part of a predicate, in brackets where it has parts itself.
+struct Part<'a>(&'a Predicate);
 
-impl Display for Side<'_> {
+impl Display for Part<'_> {
     fn fmt(&self, f: &mut Formatter) -> Result {
-        let Side(column, literals) = self;
-        let truth = literals.iter().any(|literal| matches!(literal, Value::Truth(_)));
-        if column.flips == 0 || !truth {
-            return column.fmt(f);
+        match self.0 {
+            Predicate::And(..) | Predicate::Or(..) | Predicate::Not(_) => write!(f, "({})", self.0),
+            _ => self.0.fmt(f),
         }
-        write!(f, "({}{})", "NOT ".repeat(column.flips.into()), Name(&column.name))
     }
 }
 

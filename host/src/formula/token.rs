@@ -14,8 +14,8 @@ pub(super) enum Token {
     Name(String),
     /// Digits: the size of an integer, whose sign is a token of its own.
     Number(u64),
-    /// A text in single quotes, or in hex behind an X.
-    Text(Vec<u8>),
+    /// A text in single quotes.
+    Text(String),
     /// ( ) , - and the comparisons.
     Sign(&'static str),
     /// The formula's end.
@@ -47,11 +47,8 @@ pub(super) fn tokens(formula: &str) -> Result<Vec<(Range<usize>, Token)>, Wrong>
 fn one(rest: &str, next: char) -> Result<(Token, usize), Wrong> {
     if next == '\'' || next == '"' {
         let (text, length) = quoted(rest, next)?;
-        let token = if next == '"' { Token::Name(text) } else { Token::Text(text.into()) };
+        let token = if next == '"' { Token::Name(text) } else { Token::Text(text) };
         return Ok((token, length));
-    }
-    if rest.starts_with("X'") || rest.starts_with("x'") {
-        return hex(rest);
     }
     if let Some(sign) = SIGNS.into_iter().find(|sign| rest.starts_with(sign)) {
         return Ok((Token::Sign(sign), sign.len()));
@@ -69,19 +66,6 @@ fn one(rest: &str, next: char) -> Result<(Token, usize), Wrong> {
     }
     let number = word.parse().map_err(|_| (0..length, "the number has over 64 bits".into()))?;
     Ok((Token::Number(number), length))
-}
-
-/// A text whose bytes are in hex, and its length with the X and the quotes.
-fn hex(rest: &str) -> Result<(Token, usize), Wrong> {
-    let Some((digits, _)) = rest[2..].split_once('\'') else {
-        return Err((0..rest.len(), "the closing ' is missing".into()));
-    };
-    let length = digits.len() + 3;
-    let digit = |c: u8| char::from(c).to_digit(16);
-    let byte = |two: &[u8]| Some((digit(two[0])? << 4 | digit(*two.get(1)?)?) as u8);
-    let bytes: Option<Vec<u8>> = digits.as_bytes().chunks(2).map(byte).collect();
-    let bytes = bytes.ok_or((0..length, "X'..' has two hex digits for each byte".into()))?;
-    Ok((Token::Text(bytes), length))
 }
 
 /// A quoted text, a doubled quote standing for one, and its length with the quotes.

@@ -1,12 +1,9 @@
 //! Replays the recorded lists through the C functions and says how many lines of each sort differ.
 //! Use: replay [LIST...]; with no list, those of this package. Exit status 1 where a line differs, 2 where one can't be read.
 
-mod vectors;
-
-use std::path::{Path, PathBuf};
+use filughjosa::vectors::Line;
 use std::process::ExitCode;
 use std::{env, fs};
-use vectors::Line;
 
 /// Differences that are printed in full; the rest are only counted.
 const SHOWN: usize = 20;
@@ -22,18 +19,17 @@ struct Tally {
 const SORTS: [&str; 3] = ["rewrite", "prune", "flags"];
 
 fn main() -> ExitCode {
-    let mut lists: Vec<PathBuf> = env::args_os().skip(1).map(PathBuf::from).collect();
+    let mut lists: Vec<String> = env::args().skip(1).collect();
     if lists.is_empty() {
-        let vectors = Path::new(env!("CARGO_MANIFEST_DIR")).join("vectors");
-        lists = ["paper.txt", "original.txt"].map(|name| vectors.join(name)).into();
+        lists =
+            ["paper.txt", "original.txt"].map(|name| format!("{}/vectors/{name}", env!("CARGO_MANIFEST_DIR"))).into();
     }
     let mut tally = Tally::default();
-    for list in lists {
-        let name = list.display().to_string();
-        match fs::read_to_string(&list) {
-            Ok(text) => text.lines().enumerate().for_each(|(at, line)| tally.line(&name, at + 1, line)),
+    for list in &lists {
+        match fs::read_to_string(list) {
+            Ok(text) => text.lines().enumerate().for_each(|(at, line)| tally.line(list, at + 1, line)),
             Err(e) => {
-                eprintln!("{name}: {e}");
+                eprintln!("{list}: {e}");
                 tally.unread += 1;
             }
         }

@@ -1,7 +1,7 @@
-//! The recorded lists of vectors/: reading a line, and replaying it through the C functions. Tests take this file too.
+//! The recorded lists of vectors/: reading a line, and replaying it through the C functions.
 
-use filughjosa::packed::{self, Grid};
-use filughjosa::raw::{self, PruneInput, RewriteInput, RewriteOutput};
+use crate::packed::{self, Grid};
+use crate::raw::{self, PruneInput, RewriteInput, RewriteOutput};
 
 /// A recorded call of rewriting.
 #[derive(Clone, Debug)]
