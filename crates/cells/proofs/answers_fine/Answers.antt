@@ -1,12 +1,11 @@
 -- Their number, then each of them.
 use borrow.Author.Rules.{rules}
-use borrow.Author.Tests.{not-true, not-false}
 use Rattle.cells.proofs.answers_fine.Goals as goal
 
 pub returns-then-not-answers_hold : goal.returns-then-not-answers_hold
 returns-then-not-answers_hold c =
-    rw (← c.answers_hold.ensures, not-true c.answers_hold.result c.if-not-answers_hold.true)
+    rw (← c.answers_hold.ensures, c.if-not-answers_hold.true)
 
 pub returns : goal.returns
 returns c =
-    rw (← c.answers_hold.ensures, not-false c.answers_hold.result c.if-not-answers_hold.false) c.up_to_two.ensures
+    rw (← c.answers_hold.ensures, c.if-not-answers_hold.false) c.up_to_two.ensures

@@ -5,11 +5,9 @@ use borrow.Author.Tests.{eq-eqb, ne_eqb}
 use Rattle.cells.specs.Grids.{held}
 use Rattle.cells.proofs.answers_hold.Goals as goal
 
-mul-result : tie.Need-overflow-mul-result
-mul-result c =
-    let h = held c.before.args.containers c.before.args.guarantees c.before.requires.0 (omega arith) in search rules
-
--- LOOK: need overflow-mul-result not found
+pub overflow_mul-result : goal.overflow_mul-result
+overflow_mul-result c =
+    let h = held c.args.containers c.args.guarantees c.requires.0 (omega arith) in search rules
 
 pub returns-then-len-eq0 : goal.returns-then-len-eq0
 returns-then-len-eq0 c =

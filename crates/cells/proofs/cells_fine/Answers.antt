@@ -1,25 +1,12 @@
 -- What is left of the column is fine or not.
 use borrow.Author.Rules.{rules}
 use native.Mathlib.Omega.{arith}
-use mathlib.Core.Path.{◌≡◌, refl, sym, ◌∙◌}
+use mathlib.Core.Path.{◌≡◌, refl, sym, ap, ◌∙◌}
+use mathlib.Core.Bool.{not}
 use Prim.Native.Nat.{◌-◌, ◌+◌, ◌*◌, ◌/◌, ◌≤◌}
 use lib.ListN.{length}
 use Rattle.cells.specs.Columns.{column_from, column_end, column_faulty, column_next, column_room}
 use Rattle.cells.proofs.cells_fine.Goals as goal
-
-mul-word-at : tie.Need-overflow-mul-word-at invariant-loop decreases-loop
-mul-word-at c =
-    let h = (column_room _ _ _ _ _ c.loop-test.true c.before.before.before.before.requires.first c.before.loop.invariant.0).0 in search rules
-
--- LOOK: need overflow-mul-word-at not found
-
-add-i : tie.Need-overflow-add-i invariant-loop decreases-loop
-add-i c =
-    let h = column_room _ _ _ _ _ c.before.before.before.loop-test.true c.before.before.before.before.before.before.before.requires.first c.before.before.before.before.loop.invariant.0 in
-    let n = c.before.before.before.before.before.before.before.requires.narrow in
-    search rules
-
--- LOOK: need overflow-add-i not found
 
 pub loop-left-init : goal.loop-left-init
 loop-left-init c =
@@ -33,13 +20,13 @@ pub returns-then-not-word_suits : goal.returns-then-not-word_suits
 returns-then-not-word_suits c =
     let a = c.args in
     let r = column_room _ _ _ _ _ c.loop-left-test.true c.requires.first c.loop-left.invariant.0 in
-    sym (c.loop-left.invariant.1 ∙ column_faulty a.pool.now a.kind a.grid.now a.wide c.loop-left.i r.0 c.word_at.result c.word_at.ensures c.word_suits.result c.word_suits.ensures c.loop-left.left c.loop-left-test.true c.if-not-word_suits.true)
+    sym (c.loop-left.invariant.1 ∙ column_faulty a.pool.now a.kind a.grid.now a.wide c.loop-left.i r.0 c.word_at.result c.word_at.ensures c.word_suits.result c.word_suits.ensures c.loop-left.left c.loop-left-test.true (ap not c.if-not-word_suits.true))
 
 pub loop-left-preserved : goal.loop-left-preserved
 loop-left-preserved c =
     let a = c.args in
     let r = column_room _ _ _ _ _ c.loop-left-test.true c.requires.first c.loop-left.invariant.0 in
-    (r.1, c.loop-left.invariant.1 ∙ column_next a.pool.now a.kind a.grid.now a.wide c.loop-left.i r.0 c.word_at.result c.word_at.ensures c.word_suits.result c.word_suits.ensures c.loop-left.left c.loop-left-test.true c.if-not-word_suits.false)
+    (r.1, c.loop-left.invariant.1 ∙ column_next a.pool.now a.kind a.grid.now a.wide c.loop-left.i r.0 c.word_at.result c.word_at.ensures c.word_suits.result c.word_suits.ensures c.loop-left.left c.loop-left-test.true (ap not c.if-not-word_suits.false))
 
 pub returns : goal.returns
 returns c =

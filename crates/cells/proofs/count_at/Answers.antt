@@ -9,6 +9,4 @@ returns-then-type_of-eq-NULL c =
 
 pub returns : goal.returns
 returns c =
-    rw (← c.type_of.ensures, ne_eqb _ _ c.if-type_of-eq-NULL.false, ← c.number_of_lem.ensures)
-
--- LOOK: no step number_of_lem at After-number_of (number_of)
+    rw (← c.type_of.ensures, ne_eqb _ _ c.if-type_of-eq-NULL.false, ← c.number_of.ensures)

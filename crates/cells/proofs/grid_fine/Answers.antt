@@ -7,18 +7,6 @@ use lib.ListN.{length}
 use Rattle.cells.specs.Grids.{held, grid_unfit, grid_fits}
 use Rattle.cells.proofs.grid_fine.Goals as goal
 
-mul-if1 : tie.Need-overflow-mul-if1
-mul-if1 c =
-    let h = held c.before.before.before.before.args.containers (length c.before.before.before.before.args.list.now / 8) c.before.before.before.before.requires.0 (omega arith) in search rules
-
--- LOOK: need overflow-mul-if1 not found
-
-mul-if1-2 : tie.Need-overflow-mul-if1-2
-mul-if1-2 c =
-    let h = held c.before.before.before.before.args.containers (length c.before.before.before.before.args.list.now / 8) c.before.before.before.before.requires.0 (omega arith) in search rules
-
--- LOOK: need overflow-mul-if1-2 not found
-
 pub returns-then-grid-containers : goal.returns-then-grid-containers
 returns-then-grid-containers c =
     let a = c.args in

@@ -1,26 +1,13 @@
 -- What is left of the column is fine or not.
 use borrow.Author.Rules.{rules}
 use native.Mathlib.Omega.{arith}
-use mathlib.Core.Path.{◌≡◌, refl, sym, ◌∙◌}
+use mathlib.Core.Path.{◌≡◌, refl, sym, ap, ◌∙◌}
+use mathlib.Core.Bool.{not}
 use Prim.Native.Nat.{◌-◌, ◌+◌, ◌*◌, ◌/◌, ◌≤◌}
 use lib.ListN.{length}
 use Rattle.literals.specs.Literals.{integer_type}
 use Rattle.cells.specs.Columns.{column_from, column_end, column_faulty, column_next, column_room}
 use Rattle.cells.proofs.integers_fine.Goals as goal
-
-mul-word-at : tie.Need-overflow-mul-word-at invariant-loop decreases-loop
-mul-word-at c =
-    let h = (column_room _ _ _ _ _ c.loop-test.true c.before.before.before.before.requires.first c.before.loop.invariant.0).0 in search rules
-
--- LOOK: need overflow-mul-word-at not found
-
-add-i : tie.Need-overflow-add-i invariant-loop decreases-loop
-add-i c =
-    let h = column_room _ _ _ _ _ c.before.before.before.loop-test.true c.before.before.before.before.before.before.before.requires.first c.before.before.before.before.loop.invariant.0 in
-    let n = c.before.before.before.before.before.before.before.requires.narrow in
-    search rules
-
--- LOOK: need overflow-add-i not found
 
 pub loop-left-init : goal.loop-left-init
 loop-left-init c =
@@ -34,13 +21,13 @@ pub returns-then-not-integer_suits : goal.returns-then-not-integer_suits
 returns-then-not-integer_suits c =
     let a = c.args in
     let r = column_room _ _ _ _ _ c.loop-left-test.true c.requires.first c.loop-left.invariant.0 in
-    sym (c.loop-left.invariant.1 ∙ column_faulty a.pool.now integer_type a.grid.now a.wide c.loop-left.i r.0 c.word_at.result c.word_at.ensures c.integer_suits.result c.integer_suits.ensures c.loop-left.left c.loop-left-test.true c.if-not-integer_suits.true)
+    sym (c.loop-left.invariant.1 ∙ column_faulty a.pool.now integer_type a.grid.now a.wide c.loop-left.i r.0 c.word_at.result c.word_at.ensures c.integer_suits.result c.integer_suits.ensures c.loop-left.left c.loop-left-test.true (ap not c.if-not-integer_suits.true))
 
 pub loop-left-preserved : goal.loop-left-preserved
 loop-left-preserved c =
     let a = c.args in
     let r = column_room _ _ _ _ _ c.loop-left-test.true c.requires.first c.loop-left.invariant.0 in
-    (r.1, c.loop-left.invariant.1 ∙ column_next a.pool.now integer_type a.grid.now a.wide c.loop-left.i r.0 c.word_at.result c.word_at.ensures c.integer_suits.result c.integer_suits.ensures c.loop-left.left c.loop-left-test.true c.if-not-integer_suits.false)
+    (r.1, c.loop-left.invariant.1 ∙ column_next a.pool.now integer_type a.grid.now a.wide c.loop-left.i r.0 c.word_at.result c.word_at.ensures c.integer_suits.result c.integer_suits.ensures c.loop-left.left c.loop-left-test.true (ap not c.if-not-integer_suits.false))
 
 pub returns : goal.returns
 returns c =

@@ -1,6 +1,7 @@
 -- What is left of the list, from a place on, is fine or not.
 use borrow.Author.Rules.{rules}
-use mathlib.Core.Path.{◌≡◌, refl, sym, ◌∙◌}
+use mathlib.Core.Path.{◌≡◌, refl, sym, ap, ◌∙◌}
+use mathlib.Core.Bool.{not}
 use Prim.Native.Nat.{◌-◌, ◌/◌}
 use lib.ListN.{length, drop}
 use Rattle.words.specs.Word.{words_of}
@@ -14,11 +15,11 @@ loop-i-init c =
 
 pub returns-then-not-guarantee_fine : goal.returns-then-not-guarantee_fine
 returns-then-not-guarantee_fine c =
-    sym (c.loop-i.invariant ∙ guarantee_faulty _ _ c.loop-i-test.true _ c.word_or_zero.ensures _ c.guarantee_fine.result c.guarantee_fine.ensures c.if-not-guarantee_fine.true)
+    sym (c.loop-i.invariant ∙ guarantee_faulty _ _ c.loop-i-test.true _ c.word_or_zero.ensures _ c.guarantee_fine.result c.guarantee_fine.ensures (ap not c.if-not-guarantee_fine.true))
 
 pub loop-i-preserved : goal.loop-i-preserved
 loop-i-preserved c =
-    c.loop-i.invariant ∙ guarantee_next _ _ c.loop-i-test.true _ c.word_or_zero.ensures _ c.guarantee_fine.result c.guarantee_fine.ensures c.if-not-guarantee_fine.false
+    c.loop-i.invariant ∙ guarantee_next _ _ c.loop-i-test.true _ c.word_or_zero.ensures _ c.guarantee_fine.result c.guarantee_fine.ensures (ap not c.if-not-guarantee_fine.false)
 
 pub returns : goal.returns
 returns c =

@@ -1,6 +1,7 @@
 -- What is left of the list, from a place on, is fine or not.
 use borrow.Author.Rules.{rules}
-use mathlib.Core.Path.{◌≡◌, refl, sym, ◌∙◌}
+use mathlib.Core.Path.{◌≡◌, refl, sym, ap, ◌∙◌}
+use mathlib.Core.Bool.{not}
 use Prim.Native.Nat.{◌-◌, ◌/◌}
 use lib.ListN.{length, drop}
 use Rattle.words.specs.Word.{words_of}
@@ -14,19 +15,15 @@ loop-i-init c =
 
 pub returns-then-not-statistic_fine : goal.returns-then-not-statistic_fine
 returns-then-not-statistic_fine c =
-    sym (c.loop-i.invariant ∙ statistic_faulty _ _ c.loop-i-test.true _ c.word_or_zero-w.ensures _ c.statistic_fine.result c.statistic_fine.ensures c.if-not-statistic_fine.true)
+    sym (c.loop-i.invariant ∙ statistic_faulty _ _ c.loop-i-test.true _ c.word_or_zero-w.ensures _ c.statistic_fine.result c.statistic_fine.ensures (ap not c.if-not-statistic_fine.true))
 
 pub returns-then-stands_from : goal.returns-then-stands_from
 returns-then-stands_from c =
-    sym (c.loop-i.invariant ∙ statistic_twice _ _ c.loop-i-test.true _ c.word_or_zero-w.ensures _ c.statistic_fine.result c.statistic_fine.ensures c.if-not-statistic_fine.false c.Stands-from.result c.Stands-from.ensures c.if-stands_from.true)
-
--- LOOK: no step Stands-from at After-stands_from (stands_from); no step Stands-from at After-stands_from (stands_from)
+    sym (c.loop-i.invariant ∙ statistic_twice _ _ c.loop-i-test.true _ c.word_or_zero-w.ensures _ c.statistic_fine.result c.statistic_fine.ensures (ap not c.if-not-statistic_fine.false) c.stands_from.result c.stands_from.ensures c.if-stands_from.true)
 
 pub loop-i-preserved : goal.loop-i-preserved
 loop-i-preserved c =
-    c.loop-i.invariant ∙ statistic_next _ _ c.loop-i-test.true _ c.word_or_zero-w.ensures _ c.statistic_fine.result c.statistic_fine.ensures c.if-not-statistic_fine.false c.Stands-from.result c.Stands-from.ensures c.if-stands_from.false
-
--- LOOK: no step Stands-from at After-stands_from (stands_from); no step Stands-from at After-stands_from (stands_from)
+    c.loop-i.invariant ∙ statistic_next _ _ c.loop-i-test.true _ c.word_or_zero-w.ensures _ c.statistic_fine.result c.statistic_fine.ensures (ap not c.if-not-statistic_fine.false) c.stands_from.result c.stands_from.ensures c.if-stands_from.false
 
 pub returns : goal.returns
 returns c =
