@@ -175,17 +175,17 @@ neither_true x y e f = rw (e, f)
 inner_false : (k : Kind) (a b : k.order.Value) (lo hi : Value) (l : Stand k a (λ x. k.order.leb x a) lo) (h : Stand k a (λ x. k.order.leb a x) hi) (o : Operator)
     → inner o lo hi (k.value b) ≡ False → form k.order o l.bound h.bound b ≡ false
 inner_false k a b lo hi l h Equal e =
-    either_false _ _ (⊎_elim (λ p. inl (l.told AtMost b p)) (λ p. inr (h.told-first AtMost b p)) (and_false _ _ e))
+    either_false _ _ (⊎_elim (λ p. inl (l.told AtMost b p)) (λ p. inr (h.told_first AtMost b p)) (and_false _ _ e))
 inner_false k a b lo hi l h NotEqual e =
-    let p = or_false _ _ e in neither_true _ _ (l.told NotEqual b p.0) (h.told-first NotEqual b p.1)
+    let p = or_false _ _ e in neither_true _ _ (l.told NotEqual b p.0) (h.told_first NotEqual b p.1)
 inner_false k a b lo hi l h Below e = l.told Below b e
 inner_false k a b lo hi l h AtMost e = l.told AtMost b e
 inner_false k a b lo hi l h Above e = h.told Above b e
 inner_false k a b lo hi l h AtLeast e = h.told AtLeast b e
 inner_false k a b lo hi l h Distinct e =
-    let p = or_false _ _ e in neither_true _ _ (l.told NotEqual b p.0) (h.told-first NotEqual b p.1)
+    let p = or_false _ _ e in neither_true _ _ (l.told NotEqual b p.0) (h.told_first NotEqual b p.1)
 inner_false k a b lo hi l h NotDistinct e =
-    either_false _ _ (⊎_elim (λ p. inl (l.told AtMost b p)) (λ p. inr (h.told-first AtMost b p)) (and_false _ _ e))
+    either_false _ _ (⊎_elim (λ p. inl (l.told AtMost b p)) (λ p. inr (h.told_first AtMost b p)) (and_false _ _ e))
 
 -- no value between the bounds satisfies the comparison
 kind_sound : (k : Kind) (a b : k.order.Value) (o : Operator) (lo hi : Value) → Bounds lo (k.value a) → Bounds (k.value a) hi
@@ -321,6 +321,6 @@ module _ (cells : Cells) (rows : List Row) (fit : FitCells cells rows) (r : Row)
       ⊎_elim (λ x. values_gone x (rw q))
       (λ x.
       like_form_false p s l.bound t.bound u up us l.beside t.beside b
-      (either_false _ _ (⊎_elim (λ y. inl (l.told AtMost u y)) (λ y. inr (t.told-first AtMost (prefix_of false p) y)) (and_false _ _ x)))
+      (either_false _ _ (⊎_elim (λ y. inl (l.told AtMost u y)) (λ y. inr (t.told_first AtMost (prefix_of false p) y)) (and_false _ _ x)))
       h)
       (and_false _ _ e)

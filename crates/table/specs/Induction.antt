@@ -59,13 +59,13 @@ Asked Q (asks o v) = Q v
 Asked Q stays = Unit {0}
 
 -- what negation keeps of a literal, turning keeps
-module _ (Q : Value → Type 0) (minus-kept : (z y : ℤ) → negated z ≡ To y → Q (int z) → Q (int y)) (not_kept : (b : Bool) → Q (truth b) → Q (truth (negation b))) where
+module _ (Q : Value → Type 0) (minus_kept : (z y : ℤ) → negated z ≡ To y → Q (int z) → Q (int y)) (not_kept : (b : Bool) → Q (truth b) → Q (truth (negation b))) where
   minus_by : (f : Operator → Value → Turned) → ((o : Operator) (v : Value) → Q v → Asked Q (f o v)) → (o : Operator) (v : Value) → Q v → Asked Q (minus f o v)
   minus_by f next o null q = next (swap_of o) null q
   minus_by f next o (int z) q = go (negated z) refl
     where
       go : (r : Negated) → negated z ≡ r → Asked Q (minus_int f o r)
-      go (To y) e = next (swap_of o) (int y) (minus-kept z y e q)
+      go (To y) e = next (swap_of o) (int y) (minus_kept z y e q)
       go Unhandled e = tt
   minus_by f next o (text bs) q = tt
   minus_by f next o (truth b) q = tt
