@@ -1,7 +1,5 @@
 -- The two words at the place, both 0 past the end.
-use borrow.Author.Rules.{rules}
-use Prim.Native.Nat.{◌+◌}
-use native.Mathlib.Omega.{arith}
+use Rattle.std.proofs.Common.{◌+◌, arith}
 use Rattle.words.specs.WordLaws.{words_past}
 use Rattle.predicate.proofs.node_at.Goals as goal
 

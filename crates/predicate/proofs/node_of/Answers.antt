@@ -1,8 +1,5 @@
 -- Each kind reads its own place of the list, and a kind past all arms is past the list's end.
-use borrow.Author.Rules.{rules}
-use mathlib.Core.Path.{sym, ◌∙◌}
-use Prim.Native.Nat.{zero-le}
-use Rattle.words.specs.Arms.{next}
+use Rattle.std.proofs.Common.{◌∙◌, arith, sym}
 use Rattle.predicate.specs.Nodes.{node_of}
 use Rattle.predicate.specs.KindLaws.{node_unknown}
 use Rattle.predicate.proofs.node_of.Goals as goal
@@ -58,7 +55,4 @@ returns-in-9 c =
     rw (sym c.kind_of.ensures ∙ c.in-9.is, c.is_negated-in-9.ensures, c.column_of-in-9.ensures, c.literal_of-in-9.ensures)
 
 pub returns-in_default : goal.returns-in_default
-returns-in_default c =
-    let r = c.in_default.in_default-own.rest in
-    let six = next (next (next (next (next (next zero-le r.0.0.0.0.0.0.0.0.0.1) r.0.0.0.0.0.0.0.0.1) r.0.0.0.0.0.0.0.1) r.0.0.0.0.0.0.1) r.0.0.0.0.0.1) r.0.0.0.0.1 in
-    sym (node_unknown _ c.args.w _ (rw c.kind_of.ensures at (next (next (next (next six r.0.0.0.1) r.0.0.1) r.0.1) r.1)))
+returns-in_default c = sym (node_unknown _ c.args.w _ (omega (arith, c.kind_of.ensures)))
