@@ -38,7 +38,7 @@ fn project_root() -> PathBuf {
     root
 }
 
-/// The folder of the archive, after `rt staticlib spill` where the archive is not up to date.
+/// The folder of the archive, after `rt lib` in crates/spill_c where the archive is not up to date.
 fn built(root: &Path) -> PathBuf {
     let crates = root.join("crates");
     println!("cargo::rerun-if-changed={}", root.join("crates.txt").display());
@@ -46,17 +46,19 @@ fn built(root: &Path) -> PathBuf {
     let folder = root.join("target").join("staticlib");
     let newest = newest_source(root, &crates).unwrap_or_else(|e| fail(&format!("reading {}: {e}", crates.display())));
     if changed(&folder.join("libspill.a")).is_none_or(|archive| archive < newest) {
-        run_rt(root);
+        run_rt(root, &folder);
     }
     folder
 }
 
-/// Runs `rt staticlib spill` in the project's root. It proves what it compiles, which takes minutes from nothing.
-fn run_rt(root: &Path) {
-    match Command::new("rt").args(["staticlib", "spill"]).current_dir(root).output() {
-        Ok(done) if done.status.success() => {}
+/// Runs `rt lib` in crates/spill_c and copies the archive to its folder, under its name. It proves what it compiles, which takes
+/// minutes from nothing.
+fn run_rt(root: &Path, folder: &Path) {
+    let spill_c = root.join("crates").join("spill_c");
+    match Command::new("rt").arg("lib").current_dir(&spill_c).output() {
+        Ok(done) if done.status.success() => copy(&spill_c.join("out").join("libspill_c.a"), &folder.join("libspill.a")),
         Ok(done) => fail(&format!(
-            "`rt staticlib spill` failed ({}):\n{}{}",
+            "`rt lib` in crates/spill_c failed ({}):\n{}{}",
             done.status,
             String::from_utf8_lossy(&done.stdout),
             String::from_utf8_lossy(&done.stderr)
@@ -67,6 +69,16 @@ fn run_rt(root: &Path) {
         ),
         Err(e) => fail(&format!("`rt` could not be run: {e}")),
     }
+}
+
+/// Copies the archive, where there is one.
+fn copy(made: &Path, archive: &Path) {
+    if !made.is_file() {
+        return;
+    }
+    let folder = archive.parent().unwrap_or(Path::new("."));
+    let done = fs::create_dir_all(folder).and_then(|()| fs::copy(made, archive));
+    done.unwrap_or_else(|e| fail(&format!("{}: {e}", archive.display())));
 }
 
 /// When the newest file that the archive is made of was changed: crates.txt, and each crate's src, specs and proofs.

@@ -32,7 +32,7 @@ impl Project {
     fn new(name: &str) -> Project {
         let root = scratch().join(name);
         let _ = fs::remove_dir_all(&root);
-        for folder in ["host", "bin", "crates/spill/src", "crates/spill/must-fail"] {
+        for folder in ["host", "bin", "crates/spill/src", "crates/spill/must-fail", "crates/spill_c/src"] {
             fs::create_dir_all(root.join(folder)).unwrap();
         }
         let project = Project(root);
@@ -46,7 +46,7 @@ impl Project {
     /// Puts a stand-in for `rt` on the path; it notes each call.
     fn with_rt(self, does: &str) -> Project {
         let rt = self.0.join("bin/rt");
-        fs::write(&rt, format!("#!/bin/sh\necho \"$@\" >> calls\n{does}\n")).unwrap();
+        fs::write(&rt, format!("#!/bin/sh\necho \"$@\" >> ../../calls\n{does}\n")).unwrap();
         fs::set_permissions(&rt, fs::Permissions::from_mode(0o755)).unwrap();
         self
     }
@@ -70,7 +70,7 @@ impl Project {
 }
 
 /// A stand-in that writes an archive.
-const WRITES: &str = "/bin/mkdir -p target/staticlib && echo archive > target/staticlib/libspill.a";
+const WRITES: &str = "/bin/mkdir -p out && echo archive > out/libspill_c.a";
 
 fn said(done: &Output) -> String {
     String::from_utf8(done.stdout.clone()).unwrap()
@@ -81,7 +81,7 @@ fn a_missing_archive_is_built_and_linked() {
     let project = Project::new("missing").with_rt(WRITES);
     let done = project.run(&[]);
     assert!(done.status.success(), "{}", said(&done));
-    assert_eq!(fs::read_to_string(project.0.join("calls")).unwrap(), "staticlib spill\n");
+    assert_eq!(fs::read_to_string(project.0.join("calls")).unwrap(), "lib\n");
     assert!(said(&done).contains("cargo::rustc-link-lib=static=spill\n"));
 }
 
