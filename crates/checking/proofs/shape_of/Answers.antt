@@ -1,8 +1,5 @@
 -- Each kind reads its own place of the list, and a kind past all arms is past the list's end.
-use borrow.Author.Rules.{rules}
-use mathlib.Core.Path.{sym, ◌∙◌}
-use Prim.Native.Nat.{zero-le}
-use Rattle.words.specs.Arms.{next}
+use Rattle.std.proofs.Common.{◌∙◌, arith, sym}
 use Rattle.predicate.specs.KindLaws.{shape_unknown}
 use Rattle.checking.proofs.shape_of.Goals as goal
 
@@ -47,7 +44,4 @@ returns-in-9 c =
     rw c.in-9.is c.columnar-in-9.ensures
 
 pub returns-in_default : goal.returns-in_default
-returns-in_default c =
-    let r = c.in_default.in_default-own.rest in
-    let six = next (next (next (next (next (next zero-le r.0.0.0.0.0.0.0.0.0.1) r.0.0.0.0.0.0.0.0.1) r.0.0.0.0.0.0.0.1) r.0.0.0.0.0.0.1) r.0.0.0.0.0.1) r.0.0.0.0.1 in
-    c.bare-in_default.ensures ∙ sym (shape_unknown c.args.kind (next (next (next (next six r.0.0.0.1) r.0.0.1) r.0.1) r.1))
+returns-in_default c = c.bare-in_default.ensures ∙ sym (shape_unknown c.args.kind (omega arith))
