@@ -1,4 +1,4 @@
--- From none on, the list is all that the predicate asks for, and has its room.
+-- From none on, the list is all that the predicate asks for, and has its room. Assumes nothing.
 use borrow.Author.Rules.{rules}
 use Rattle.limits.specs.Limits.{max_depth}
 use Rattle.words.specs.Word.{words_of}
@@ -8,19 +8,15 @@ use Rattle.listing.specs.ListingLaws.{room_all}
 use Rattle.asking.proofs.Laws.{all_columns, all_listed}
 use Rattle.asking.proofs.list_statistics.Goals as goal
 
--- the predicate of a call
-
-abbrev whole : tie.Start → Predicate
-whole s = (predicate_at s.args.pool.now (words_of s.args.words.now) max_depth 0).predicate
-
--- LOOK: helper
-
 pub list_at-r-requires : goal.list_at-r-requires
 list_at-r-requires c =
     let a = c.args in
-    (search rules, c.requires.1, room_all (lists a.limit a.schema.now (whole s)) _ (all_columns a.limit a.schema.now (whole s) c.requires.0 c.requires.1) c.requires.2)
+    let p = (predicate_at a.pool.now (words_of a.words.now) max_depth 0).predicate in
+    (search rules, c.requires.1, room_all (lists a.limit a.schema.now p) _ (all_columns a.limit a.schema.now p c.requires.0 c.requires.1) c.requires.2)
 
 pub returns : goal.returns
 returns c =
     let a = c.args in
-    all_listed (lists a.limit a.schema.now (whole s)) _ _ _ (all_columns a.limit a.schema.now (whole s) c.requires.0 c.requires.1) c.requires.2 c.list_at-r.ensures.1
+    let p = (predicate_at a.pool.now (words_of a.words.now) max_depth 0).predicate in
+    let h = all_listed (lists a.limit a.schema.now p) _ _ _ (all_columns a.limit a.schema.now p c.requires.0 c.requires.1) c.requires.2 c.list_at-r.ensures.list in
+    record { count = h.0; list = h.1 }

@@ -1,4 +1,4 @@
--- An open LIKE has an upper bound, and no other.
+-- An open LIKE has an upper bound, and no other. Assumes nothing.
 use borrow.Author.Rules.{rules}
 use mathlib.Core.Path.{sym, ◌∙◌}
 use Rattle.literals.specs.Literals.{value_of}

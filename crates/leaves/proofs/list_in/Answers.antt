@@ -1,4 +1,4 @@
--- Up to the limit all members, over it nothing.
+-- Up to the limit all members, over it nothing. Assumes nothing.
 use borrow.Author.Rules.{rules}
 use Rattle.words.specs.Word.{words_of}
 use Rattle.listing.specs.ListingLaws.{grown_none}

@@ -1,4 +1,4 @@
--- Growing by the members that are left is growing by all.
+-- Growing by the members that are left is growing by all. Assumes nothing.
 use borrow.Author.Rules.{rules}
 use mathlib.Core.Path.{◌≡◌, refl}
 use Prim.Native.Nat.{◌-◌, ◌≤◌}

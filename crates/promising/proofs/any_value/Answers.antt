@@ -1,4 +1,4 @@
--- Some literal is not null where one of those from i on is.
+-- Some literal is not null where one of those from i on is. Assumes nothing.
 use borrow.Author.Rules.{rules}
 use mathlib.Core.Path.{◌≡◌, sym, ◌∙◌}
 use Prim.Native.Nat.{◌+◌, ◌-◌, ◌≤◌}

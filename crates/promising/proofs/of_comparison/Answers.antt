@@ -1,4 +1,4 @@
--- Each operator by its own clause.
+-- Each operator by its own clause. Assumes nothing.
 use borrow.Author.Rules.{rules}
 use Rattle.promising.proofs.of_comparison.Goals as goal
 

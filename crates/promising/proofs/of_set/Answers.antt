@@ -1,4 +1,4 @@
--- By the two tests: an unflipped column, a set with a literal.
+-- By the two tests: an unflipped column, a set with a literal. Assumes nothing.
 use Rattle.promising.proofs.Laws.{set_flipped}
 use Rattle.promising.proofs.of_set.Goals as goal
 
