@@ -13,16 +13,16 @@ returns-then-words-at c =
 pub returns-then-fault-ne0 : goal.returns-then-fault-ne0
 returns-then-fault-ne0 c =
     let fault : literal_fault c.args.pool.now c.args.pattern (type_in c.args.schema.now c.args.c.0) c.args.s (word_here c.args.schema.now c.args.pool.now (words_of c.args.words.now) c.args.s)
-            ≡ c.literal_fault-fault.result =
-        sym (rw (c.type_in.ensures, c.word_or_zero-w.ensures) at c.literal_fault-fault.ensures)
+    ≡ c.literal_fault-fault.result =
+    sym (rw (c.type_in.ensures, c.word_or_zero-w.ensures) at c.literal_fault-fault.ensures)
     in
     sym (literal_fault_lem c.args.schema.now c.args.pool.now _ _ _ _ _ (rw length_words c.if-words-at.false) fault c.if-fault-ne0.true)
 
 pub returns : goal.returns
 returns c =
     let fault : literal_fault c.args.pool.now c.args.pattern (type_in c.args.schema.now c.args.c.0) c.args.s (word_here c.args.schema.now c.args.pool.now (words_of c.args.words.now) c.args.s)
-            ≡ c.literal_fault-fault.result =
-        sym (rw (c.type_in.ensures, c.word_or_zero-w.ensures) at c.literal_fault-fault.ensures)
+    ≡ c.literal_fault-fault.result =
+    sym (rw (c.type_in.ensures, c.word_or_zero-w.ensures) at c.literal_fault-fault.ensures)
     in
     rw (c.length_of.ensures, c.word_or_zero-w.ensures)
     (sym (literal_fine c.args.schema.now c.args.pool.now _ _ _ _ (rw length_words c.if-words-at.false) (fault ∙ c.if-fault-ne0.false)))

@@ -15,15 +15,15 @@ returns-then-words-at c =
 pub returns-then-fault-eq0 : goal.returns-then-fault-eq0
 returns-then-fault-eq0 c =
     let fault : node_fault c.args.schema.now c.args.pool.now (words_of c.args.words.now) c.args.depth c.args.s ≡ c.first_fault-fault.result =
-        node_there _ _ _ _ _ (rw length_words c.if-words-at.false) _ c.node_at-n.ensures
-        ∙ sym (rw (c.formed.ensures, c.limited.ensures, c.columned.ensures, c.word_or_zero-w.ensures) at c.first_fault-fault.ensures)
+    node_there _ _ _ _ _ (rw length_words c.if-words-at.false) _ c.node_at-n.ensures
+    ∙ sym (rw (c.formed.ensures, c.limited.ensures, c.columned.ensures, c.word_or_zero-w.ensures) at c.first_fault-fault.ensures)
     in
     rw c.node_at-n.ensures (sym (judge_fine _ _ _ _ _ (fault ∙ c.if-fault-eq0.true)))
 
 pub returns-else-fault-eq0 : goal.returns-else-fault-eq0
 returns-else-fault-eq0 c =
     let fault : node_fault c.args.schema.now c.args.pool.now (words_of c.args.words.now) c.args.depth c.args.s ≡ c.first_fault-fault.result =
-        node_there _ _ _ _ _ (rw length_words c.if-words-at.false) _ c.node_at-n.ensures
-        ∙ sym (rw (c.formed.ensures, c.limited.ensures, c.columned.ensures, c.word_or_zero-w.ensures) at c.first_fault-fault.ensures)
+    node_there _ _ _ _ _ (rw length_words c.if-words-at.false) _ c.node_at-n.ensures
+    ∙ sym (rw (c.formed.ensures, c.limited.ensures, c.columned.ensures, c.word_or_zero-w.ensures) at c.first_fault-fault.ensures)
     in
     sym (judge_fault _ _ _ _ _ _ fault c.if-fault-eq0.false)

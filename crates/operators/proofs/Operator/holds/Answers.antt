@@ -8,9 +8,7 @@ returns-in-Less c =
 
 pub returns-in-Equal : goal.returns-in-Equal
 returns-in-Equal c =
-    rw c.in-Equal.is c.Holds-same.ensures
-
--- LOOK: no step Holds-same at After-holds_same (holds_same)
+    rw c.in-Equal.is c.holds_same.ensures
 
 pub returns-in-Greater : goal.returns-in-Greater
 returns-in-Greater c =
