@@ -1,4 +1,4 @@
--- A count of containers times one of guarantees fits.
+-- A count of containers times one of guarantees fits. Assumes nothing.
 use borrow.Author.Rules.{rules}
 use native.Mathlib.Omega.{arith}
 use borrow.Author.Tests.{eq-eqb, ne_eqb}

@@ -1,4 +1,4 @@
--- Integers, or any type.
+-- Integers, or any type. Assumes nothing.
 use borrow.Author.Rules.{rules}
 use Rattle.cells.proofs.column_fine.Goals as goal
 

@@ -1,4 +1,4 @@
--- What is left of the columns is fine or not.
+-- What is left of the columns is fine or not. Assumes nothing.
 use borrow.Author.Rules.{rules}
 use native.Mathlib.Omega.{arith}
 use mathlib.Core.Path.{◌≡◌, refl, sym, ◌∙◌}

@@ -1,4 +1,4 @@
--- As many cells as containers times statistics, then the columns.
+-- As many cells as containers times statistics, then the columns. Assumes nothing.
 use borrow.Author.Rules.{rules}
 use native.Mathlib.Omega.{arith}
 use mathlib.Core.Path.{sym, ◌∙◌}

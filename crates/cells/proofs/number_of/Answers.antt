@@ -1,4 +1,4 @@
--- Whole, or cut.
+-- Whole, or cut. Assumes nothing.
 use borrow.Author.Rules.{rules}
 use Rattle.cells.proofs.number_of.Goals as goal
 

@@ -1,4 +1,4 @@
--- What is left of the answers is up to two or not.
+-- What is left of the answers is up to two or not. Assumes nothing.
 use borrow.Author.Rules.{rules}
 use mathlib.Core.Path.{◌≡◌, refl, sym, ◌∙◌}
 use Prim.Native.Nat.{◌-◌}

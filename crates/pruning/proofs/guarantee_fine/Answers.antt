@@ -1,4 +1,4 @@
--- Field by field, a rest for the zero field.
+-- Field by field, a rest for the zero field. Assumes nothing.
 use native.Mathlib.Nat.{div-one}
 use borrow.Author.Tests.{eq-eqb, ne_eqb}
 use Rattle.pruning.proofs.guarantee_fine.Goals as goal

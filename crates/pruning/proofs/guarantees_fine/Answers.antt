@@ -1,4 +1,4 @@
--- What is left of the list, from a place on, is fine or not.
+-- What is left of the list, from a place on, is fine or not. Assumes nothing.
 use borrow.Author.Rules.{rules}
 use mathlib.Core.Path.{◌≡◌, refl, sym, ap, ◌∙◌}
 use mathlib.Core.Bool.{not}

@@ -1,4 +1,4 @@
--- What is left of the list, from a place on, has the word or not.
+-- What is left of the list, from a place on, has the word or not. Assumes nothing.
 use borrow.Author.Rules.{rules}
 use mathlib.Core.Path.{◌≡◌, refl, sym, ◌∙◌}
 use Prim.Native.Nat.{◌-◌, ◌/◌}

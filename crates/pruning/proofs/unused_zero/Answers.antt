@@ -1,4 +1,4 @@
--- A field that is not used is tested.
+-- A field that is not used is tested. Assumes nothing.
 use Rattle.pruning.proofs.unused_zero.Goals as goal
 
 pub returns-then-used : goal.returns-then-used

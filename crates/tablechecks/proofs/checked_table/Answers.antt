@@ -1,35 +1,35 @@
--- The first test that fails decides.
+-- The first test that fails decides. Assumes nothing.
 use borrow.Author.Rules.{rules}
-use borrow.Author.Tests.{le-leb, lt-leb, not-true, not-false}
+use borrow.Author.Tests.{le-leb, lt-leb}
 use Rattle.pruning.specs.TableChecking.{checked_table}
 use Rattle.tablechecks.proofs.checked_table.Goals as goal
 
 pub returns-then-not-words_within : goal.returns-then-not-words_within
 unfolding checked_table
 returns-then-not-words_within c =
-    rw (← c.words_within.ensures, not-true c.words_within.result c.if-not-words_within.true)
+    rw (← c.words_within.ensures, c.if-not-words_within.true)
 
 pub returns-then-pool-gt-TABLE_POOL_ROOM : goal.returns-then-pool-gt-TABLE_POOL_ROOM
 unfolding checked_table
 returns-then-pool-gt-TABLE_POOL_ROOM c =
-    rw (← c.words_within.ensures, not-false c.words_within.result c.if-not-words_within.false, lt-leb _ _ c.if-pool-gt-TABLE_POOL_ROOM.true)
+    rw (← c.words_within.ensures, c.if-not-words_within.false, lt-leb _ _ c.if-pool-gt-TABLE_POOL_ROOM.true)
 
 pub returns-then-not-words_within-2 : goal.returns-then-not-words_within-2
 unfolding checked_table
 returns-then-not-words_within-2 c =
-    rw (← c.words_within.ensures, not-false c.words_within.result c.if-not-words_within.false, le-leb _ _ c.if-pool-gt-TABLE_POOL_ROOM.false, ← c.words_within-2.ensures, not-true c.words_within-2.result c.if-not-words_within-2.true)
+    rw (← c.words_within.ensures, c.if-not-words_within.false, le-leb _ _ c.if-pool-gt-TABLE_POOL_ROOM.false, ← c.words_within-2.ensures, c.if-not-words_within-2.true)
 
 pub returns-then-not-words_within-3 : goal.returns-then-not-words_within-3
 unfolding checked_table
 returns-then-not-words_within-3 c =
     rw (
       ← c.words_within.ensures,
-      not-false c.words_within.result c.if-not-words_within.false,
+      c.if-not-words_within.false,
       le-leb _ _ c.if-pool-gt-TABLE_POOL_ROOM.false,
       ← c.words_within-2.ensures,
-      not-false c.words_within-2.result c.if-not-words_within-2.false,
+      c.if-not-words_within-2.false,
       ← c.words_within-3.ensures,
-      not-true c.words_within-3.result c.if-not-words_within-3.true,
+      c.if-not-words_within-3.true,
     )
 
 pub returns-then-not-statistics_fine : goal.returns-then-not-statistics_fine
@@ -37,14 +37,14 @@ unfolding checked_table
 returns-then-not-statistics_fine c =
     rw (
       ← c.words_within.ensures,
-      not-false c.words_within.result c.if-not-words_within.false,
+      c.if-not-words_within.false,
       le-leb _ _ c.if-pool-gt-TABLE_POOL_ROOM.false,
       ← c.words_within-2.ensures,
-      not-false c.words_within-2.result c.if-not-words_within-2.false,
+      c.if-not-words_within-2.false,
       ← c.words_within-3.ensures,
-      not-false c.words_within-3.result c.if-not-words_within-3.false,
+      c.if-not-words_within-3.false,
       ← c.statistics_fine.ensures,
-      not-true c.statistics_fine.result c.if-not-statistics_fine.true,
+      c.if-not-statistics_fine.true,
     )
 
 pub returns-then-not-guarantees_fine : goal.returns-then-not-guarantees_fine
@@ -52,16 +52,16 @@ unfolding checked_table
 returns-then-not-guarantees_fine c =
     rw (
       ← c.words_within.ensures,
-      not-false c.words_within.result c.if-not-words_within.false,
+      c.if-not-words_within.false,
       le-leb _ _ c.if-pool-gt-TABLE_POOL_ROOM.false,
       ← c.words_within-2.ensures,
-      not-false c.words_within-2.result c.if-not-words_within-2.false,
+      c.if-not-words_within-2.false,
       ← c.words_within-3.ensures,
-      not-false c.words_within-3.result c.if-not-words_within-3.false,
+      c.if-not-words_within-3.false,
       ← c.statistics_fine.ensures,
-      not-false c.statistics_fine.result c.if-not-statistics_fine.false,
+      c.if-not-statistics_fine.false,
       ← c.guarantees_fine.ensures,
-      not-true c.guarantees_fine.result c.if-not-guarantees_fine.true,
+      c.if-not-guarantees_fine.true,
     )
 
 pub returns : goal.returns
@@ -69,14 +69,14 @@ unfolding checked_table
 returns c =
     rw (
       ← c.words_within.ensures,
-      not-false c.words_within.result c.if-not-words_within.false,
+      c.if-not-words_within.false,
       le-leb _ _ c.if-pool-gt-TABLE_POOL_ROOM.false,
       ← c.words_within-2.ensures,
-      not-false c.words_within-2.result c.if-not-words_within-2.false,
+      c.if-not-words_within-2.false,
       ← c.words_within-3.ensures,
-      not-false c.words_within-3.result c.if-not-words_within-3.false,
+      c.if-not-words_within-3.false,
       ← c.statistics_fine.ensures,
-      not-false c.statistics_fine.result c.if-not-statistics_fine.false,
+      c.if-not-statistics_fine.false,
       ← c.guarantees_fine.ensures,
-      not-false c.guarantees_fine.result c.if-not-guarantees_fine.false,
+      c.if-not-guarantees_fine.false,
     ) c.table_fine.ensures

@@ -1,4 +1,4 @@
--- Checked from the root, the table ends where its words do.
+-- Checked from the root, the table ends where its words do. Assumes nothing.
 use borrow.Author.Rules.{rules}
 use Rattle.words.specs.WordLaws.{length_words}
 use Rattle.pruning.specs.TableChecking.{table_fine}

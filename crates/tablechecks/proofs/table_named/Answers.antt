@@ -1,4 +1,4 @@
--- Each kind has its own test.
+-- Each kind has its own test. Assumes nothing.
 use borrow.Author.Rules.{rules}
 use Rattle.tablechecks.proofs.table_named.Goals as goal
 

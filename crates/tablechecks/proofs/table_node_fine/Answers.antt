@@ -1,6 +1,6 @@
--- The first test that fails decides.
+-- The first test that fails decides. Assumes nothing.
 use borrow.Author.Rules.{rules}
-use borrow.Author.Tests.{lt-ltb, le-ltb, not-true, not-false}
+use borrow.Author.Tests.{lt-ltb, le-ltb}
 use Rattle.words.specs.WordLaws.{length_words}
 use Rattle.tablechecks.proofs.table_node_fine.Goals as goal
 
@@ -10,9 +10,9 @@ returns-then-table-at c =
 
 pub returns-then-not-table_formed : goal.returns-then-not-table_formed
 returns-then-not-table_formed c =
-    rw (length_words, lt-ltb _ _ c.if-table-at.false, ← c.word_or_zero.ensures, ← c.table_formed.ensures, not-true c.table_formed.result c.if-not-table_formed.true)
+    rw (length_words, lt-ltb _ _ c.if-table-at.false, ← c.word_or_zero.ensures, ← c.table_formed.ensures, c.if-not-table_formed.true)
 
 pub returns : goal.returns
 returns c =
-    rw (← c.table_node_at.ensures, length_words, lt-ltb _ _ c.if-table-at.false, ← c.word_or_zero.ensures, ← c.table_formed.ensures, not-false c.table_formed.result c.if-not-table_formed.false)
+    rw (← c.table_node_at.ensures, length_words, lt-ltb _ _ c.if-table-at.false, ← c.word_or_zero.ensures, ← c.table_formed.ensures, c.if-not-table_formed.false)
     c.table_named.ensures

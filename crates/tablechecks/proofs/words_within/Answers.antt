@@ -1,4 +1,4 @@
--- The first test that fails decides.
+-- The first test that fails decides. Assumes nothing.
 use borrow.Author.Tests.{eq-eqb, ne_eqb}
 use Rattle.tablechecks.proofs.words_within.Goals as goal
 
