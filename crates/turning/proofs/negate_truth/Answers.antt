@@ -1,9 +1,9 @@
 -- Only a truth value changes.
 use borrow.Author.Rules.{rules}
-use borrow.Author.Rules.{sfits_of}
 use mathlib.Core.Path.{refl}
 use mir.Syntax.{w64}
-use mir.ValLaws.{to_z-of_z}
+use mir.Val.{SFits}
+use mir.Facts.{to_z-of_z}
 use Rattle.turning.proofs.Laws.{not_null, not_int, not_text, not_truth}
 use Rattle.turning.proofs.negate_truth.Goals as goal
 
@@ -13,7 +13,8 @@ returns-in-Null c =
 
 pub returns-in-Int : goal.returns-in-Int
 returns-in-Int c =
-    rw (to_z-of_z w64 c.in-Int.x (sfits_of c.in-Int.known_told-1-own.given.0.1), c.in-Int.is) (not_int c.in-Int.x)
+    let x : SFits w64 c.in-Int.x = search rules in
+    rw (to_z-of_z x, c.in-Int.is) (not_int c.in-Int.x)
 
 pub returns-in-Text : goal.returns-in-Text
 returns-in-Text c =
