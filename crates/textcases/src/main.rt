@@ -5,6 +5,7 @@ ghost use Rattle.std.specs.Prelude.{◌<◌, length};
 ghost use Rattle.text.specs.Utf8.{Utf8};
 
 use increment::End;
+use std::io;
 
 // A byte as a number.
 fn wide(x: u8) -> u64 {
@@ -12,108 +13,103 @@ fn wide(x: u8) -> u64 {
 }
 
 // Prints bytes in hex, and a dash for none.
-fn show(s: &[u8]) {
+fn show(rt: &impl Print, s: &[u8]) -> io::Result<()> {
     if s.len() == 0 {
-        io::write_all(1, b"-");
+        print!(rt; "-")?;
     }
     for i in 0..s.len() {
-        io::print_hex(1, wide(s[i]), 2);
+        print!(rt; "{:02x}", wide(s[i]))?;
     }
+    Ok(())
 }
 
 // Prints the unescaped prefix.
-fn show_prefix(pattern: &[u8])
+fn show_prefix(rt: &impl Print, pattern: &[u8]) -> io::Result<()>
     requires { length pattern.now < 64 }
 {
     let mut out = [0u8; 64];
     let n = text::write_prefix(pattern, &mut out, 0);
-    io::write_all(1, b" prefix ");
-    show(&out[..n]);
+    print!(rt; " prefix ")?;
+    show(rt, &out[..n])
 }
 
 // Prints what is left from the first wildcard on.
-fn show_rest(pattern: &[u8]) {
-    io::write_all(1, b" rest ");
-    show(text::split_constant_prefix(pattern));
+fn show_rest(rt: &impl Print, pattern: &[u8]) -> io::Result<()> {
+    print!(rt; " rest ")?;
+    show(rt, text::split_constant_prefix(pattern))
 }
 
 // Prints the upper bound, or that there is none.
-fn show_upper(pattern: &[u8])
+fn show_upper(rt: &impl Print, pattern: &[u8]) -> io::Result<()>
     requires { (length pattern.now < 64) × Utf8 pattern.now }
 {
     let mut out = [0u8; 64];
     let r = increment::upper_bound(pattern, &mut out);
-    io::write_all(1, b" upper ");
+    print!(rt; " upper ")?;
     match r {
-        End::Until(n) => {
-            show(&out[..n]);
-        }
-        End::Absent => {
-            io::write_all(1, b"unhandled");
-        }
+        End::Until(n) => show(rt, &out[..n]),
+        End::Absent => print!(rt; "unhandled"),
     }
 }
 
 // Prints the line of a pattern.
-fn run(pattern: &[u8]) {
-    io::write_all(1, b"pattern ");
-    show(pattern);
+fn run(rt: &impl Print, pattern: &[u8]) -> io::Result<()> {
+    print!(rt; "pattern ")?;
+    show(rt, pattern)?;
     if 64 <= pattern.len() {
-        io::write_all(1, b" too long\n");
-        return;
+        return println!(rt; " too long");
     }
     if text::is_utf8(pattern) {
-        show_prefix(pattern);
-        show_rest(pattern);
-        show_upper(pattern);
-        io::write_all(1, b"\n");
-        return;
+        show_prefix(rt, pattern)?;
+        show_rest(rt, pattern)?;
+        show_upper(rt, pattern)?;
+        return println!(rt;);
     }
-    io::write_all(1, b" not UTF-8\n");
+    println!(rt; " not UTF-8")
 }
 
 // A prefix; U+D7FF, before the surrogates; U+10FFFF, the last code point.
-fn prefixes() {
-    run(b"ab%");
-    run(b"a\xED\x9F\xBF%");
-    run(b"\xF4\x8F\xBF\xBF%");
+fn prefixes(rt: &impl Print) -> io::Result<()> {
+    run(rt, b"ab%")?;
+    run(rt, b"a\xED\x9F\xBF%")?;
+    run(rt, b"\xF4\x8F\xBF\xBF%")
 }
 
 // No prefix, no wildcard.
-fn parts_missing() {
-    run(b"");
-    run(b"%");
-    run(b"_b");
-    run(b"ab");
+fn parts_missing(rt: &impl Print) -> io::Result<()> {
+    run(rt, b"")?;
+    run(rt, b"%")?;
+    run(rt, b"_b")?;
+    run(rt, b"ab")
 }
 
 // A last backslash, escaped wildcards, an escaped backslash.
-fn backslashes() {
-    run(b"a\\");
-    run(b"\\%\\");
-    run(b"a\\_b%");
-    run(b"a\\\\_%");
-    run(b"foo\\%%");
+fn backslashes(rt: &impl Print) -> io::Result<()> {
+    run(rt, b"a\\")?;
+    run(rt, b"\\%\\")?;
+    run(rt, b"a\\_b%")?;
+    run(rt, b"a\\\\_%")?;
+    run(rt, b"foo\\%%")
 }
 
 // U+7F, which grows by a byte; U+FDCF and U+FFFD, before a gap; U+FFFF, in one.
-fn gaps() {
-    run(b"\x7F_");
-    run(b"a\xEF\xB7\x8F%");
-    run(b"\xEF\xBF\xBD%");
-    run(b"\xEF\xBF\xBF%");
+fn gaps(rt: &impl Print) -> io::Result<()> {
+    run(rt, b"\x7F_")?;
+    run(rt, b"a\xEF\xB7\x8F%")?;
+    run(rt, b"\xEF\xBF\xBD%")?;
+    run(rt, b"\xEF\xBF\xBF%")
 }
 
 // No UTF-8: a surrogate, a character cut short.
-fn faults() {
-    run(b"\xED\xA0\x80%");
-    run(b"a\xC3%");
+fn faults(rt: &impl Print) -> io::Result<()> {
+    run(rt, b"\xED\xA0\x80%")?;
+    run(rt, b"a\xC3%")
 }
 
-fn main() {
-    prefixes();
-    parts_missing();
-    backslashes();
-    gaps();
-    faults();
+fn main(rt: HostRuntime) -> io::Result<()> {
+    prefixes(&rt)?;
+    parts_missing(&rt)?;
+    backslashes(&rt)?;
+    gaps(&rt)?;
+    faults(&rt)
 }

@@ -9,24 +9,16 @@ use Rattle.increment.proofs.increment_utf8.Goals as goal
 
 pub slice_bounds-find_rise-end-2 : goal.slice_bounds-find_rise-end-2
 slice_bounds-find_rise-end-2 c =
-    sym (length-take-le c.before.before.args.len c.before.before.args.text.now (omega arith))
-
--- LOOK: before past start; before past start
+    sym (length-take-le c.args.len c.args.text.now (omega arith))
 
 pub put_char-end-requires : goal.put_char-end-requires
 put_char-end-requires c =
-    fits rule rule_raises c.before.before.before.before.before.before.before.args.text.now c.before.before.before.before.before.before.before.args.len _ _ c.before.before.before.before.before.before.before.requires.0 c.before.before.before.before.before.before.before.requires.1 (sym c.in-At.is ∙ c.find_rise-x.ensures)
-
--- LOOK: before past start; before past start; before past start; before past start
+    fits rule rule_raises c.args.text.now c.args.len _ _ c.requires.0 c.requires.1 (sym c.in-At.is ∙ c.find_rise-x.ensures)
 
 pub returns-in-At : goal.returns-in-At
 returns-in-At c =
-    raised_bytes rule rule_raises c.before.before.before.before.before.before.before.before.before.before.args.text.now c.before.before.before.before.before.before.before.before.before.before.args.len _ _ c.before.before.before.before.before.before.before.before.before.before.requires.0 c.before.before.before.before.before.before.before.before.before.before.requires.1 (sym c.in-At.is ∙ c.find_rise-x.ensures) _ _ c.put_char-end.ensures
-
--- LOOK: before past start; before past start; before past start; before past start
+    raised_bytes rule rule_raises c.args.text.now c.args.len _ _ c.requires.0 c.requires.1 (sym c.in-At.is ∙ c.find_rise-x.ensures) _ _ c.put_char-end.ensures
 
 pub returns-in-Never : goal.returns-in-Never
 returns-in-Never c =
-    unraised_bytes rule c.before.before.before.before.before.args.text.now _ (sym c.in-Never.is ∙ c.find_rise-x.ensures)
-
--- LOOK: before past start
+    unraised_bytes rule c.args.text.now _ (sym c.in-Never.is ∙ c.find_rise-x.ensures)
