@@ -1,5 +1,4 @@
 -- The number of bytes picks the case.
-use borrow.Author.Rules.{rules}
 use borrow.Author.Tests.{eq-eqb, ne_eqb}
 use native.Mathlib.Omega.{arith}
 use Rattle.increment.specs.Walk.{decode_at}

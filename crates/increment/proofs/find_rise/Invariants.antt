@@ -1,10 +1,8 @@
 -- The whole is raised as the characters before end are.
-use borrow.Author.Rules.{rules}
-use mathlib.Core.Path.{sym, ◌∙◌}
 use Prim.Native.Nat.{◌≤◌}
 use lib.ListN.{length}
 use Rattle.text.specs.Upper.{rule}
-use Rattle.increment.proofs.Last.{Front, from_end, found, onward, finished}
+use Rattle.increment.proofs.Last.{Front}
 use Rattle.increment.proofs.find_rise.Given as goal
 
 abbrev pub invariant-loop-end : goal.invariant-loop-end

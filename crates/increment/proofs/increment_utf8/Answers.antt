@@ -1,5 +1,4 @@
 -- The search's answer says what is stored where.
-use borrow.Author.Rules.{rules}
 use mathlib.Core.Path.{sym, ◌∙◌}
 use native.Mathlib.Omega.{arith}
 use lib.Seq.{length-take-le}

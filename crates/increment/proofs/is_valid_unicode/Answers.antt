@@ -1,5 +1,4 @@
 -- Each range that c is not in and the one that it is in pick the case.
-use borrow.Author.Rules.{rules}
 use mathlib.Core.Path.{sym, ◌∙◌}
 use Rattle.text.specs.Increment.{allowed}
 use Rattle.increment.proofs.is_valid_unicode.Goals as goal

@@ -1,8 +1,6 @@
 -- The walk from the last byte leads where the walk from i leads.
 use borrow.Author.Rules.{rules}
-use mathlib.Core.Path.{◌≡◌, refl, sym, ◌∙◌}
-use Prim.Native.Nat.{◌-◌, ◌<◌}
-use Rattle.increment.specs.Walk.{start_at}
+use mathlib.Core.Path.{refl, sym, ◌∙◌}
 use Rattle.increment.proofs.Walk.{start_stops, start_goes, start_zero}
 use Rattle.increment.proofs.last_start.Goals as goal
 

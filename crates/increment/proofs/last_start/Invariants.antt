@@ -1,9 +1,7 @@
 -- The walk from the last byte leads where the walk from i leads.
-use borrow.Author.Rules.{rules}
-use mathlib.Core.Path.{◌≡◌, refl, sym, ◌∙◌}
+use mathlib.Core.Path.{◌≡◌}
 use Prim.Native.Nat.{◌-◌, ◌<◌}
 use Rattle.increment.specs.Walk.{start_at}
-use Rattle.increment.proofs.Walk.{start_stops, start_goes, start_zero}
 use Rattle.increment.proofs.last_start.Given as goal
 
 abbrev pub invariant-loop-i : goal.invariant-loop-i

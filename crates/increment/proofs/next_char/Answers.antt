@@ -1,5 +1,4 @@
 -- The rule by its test.
-use borrow.Author.Rules.{rules}
 use mathlib.Core.Path.{sym, ◌∙◌}
 use Rattle.increment.proofs.Rule.{next_to, next_none}
 use Rattle.increment.proofs.next_char.Goals as goal

@@ -1,5 +1,4 @@
 -- Stores one after the other.
-use borrow.Author.Rules.{rules}
 use native.Mathlib.Omega.{arith}
 use native.Mathlib.Numerals.{towards_suc}
 use lib.ListN.{length-set}

@@ -1,5 +1,4 @@
 -- The bytes as numbers.
-use borrow.Author.Rules.{rules}
 use Rattle.increment.proofs.three.Goals as goal
 
 pub returns : goal.returns

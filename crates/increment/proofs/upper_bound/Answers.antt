@@ -1,5 +1,4 @@
 -- The prefix, then its increment where a wildcard is left.
-use borrow.Author.Rules.{rules}
 use mathlib.Core.Path.{sym, ◌∙◌, ap}
 use lib.ListN.{length}
 use Rattle.increment.proofs.Bound.{ready, whole, risen}
