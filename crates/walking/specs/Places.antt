@@ -4,7 +4,7 @@ use Rattle.std.specs.Prelude.{◌≡◌, refl, Bool, true, false, List, [], ◌�
 use Rattle.std.proofs.Common.{subst, ◌∙◌, ltb-true, ltb-false}
 use Prim.Native.Nat.{ℕ, zero, suc, ◌+◌, ◌*◌, ◌-◌, ◌/◌, ◌^◌, ◌≤◌, ◌<◌, max}
 use native.Mathlib.Omega.{arith}
-use Rattle.std.proofs.Math.ListN.{get_or-eq-default}
+use Rattle.std.proofs.Math.ListN.{get_or-eq_default}
 use Rattle.words.specs.Word.{words_of}
 use Rattle.words.specs.WordLaws.{length_words}
 use Rattle.operators.specs.Operators.{operator_of}
