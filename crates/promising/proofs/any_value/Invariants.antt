@@ -1,11 +1,8 @@
 -- Some literal is not null where one of those from i on is. Assumes nothing.
-use borrow.Author.Rules.{rules}
-use mathlib.Core.Path.{◌≡◌, sym, ◌∙◌}
+use mathlib.Core.Path.{◌≡◌}
 use Prim.Native.Nat.{◌+◌, ◌-◌, ◌≤◌}
-use native.Mathlib.Nat.{add-zero, sub-zero}
 use Rattle.words.specs.Word.{words_of}
 use Rattle.promising.specs.Promises.{any_value}
-use Rattle.promising.proofs.Laws.{any_here, any_next, any_none}
 use Rattle.promising.proofs.any_value.Given as goal
 
 abbrev pub invariant-loop-i : goal.invariant-loop-i

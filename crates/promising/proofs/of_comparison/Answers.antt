@@ -1,5 +1,4 @@
 -- Each operator by its own clause. Assumes nothing.
-use borrow.Author.Rules.{rules}
 use Rattle.promising.proofs.of_comparison.Goals as goal
 
 pub returns-in-Equal : goal.returns-in-Equal

@@ -1,5 +1,4 @@
 -- Each node by its own clause. Assumes nothing.
-use borrow.Author.Rules.{rules}
 use mathlib.Core.Path.{sym, ◌∙◌}
 use Rattle.promising.proofs.promise_at.Goals as goal
 
