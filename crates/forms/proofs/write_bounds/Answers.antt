@@ -10,38 +10,32 @@ use Rattle.table.specs.Tables.{Table, against}
 use Rattle.writing.specs.WritingLaws.{room_word, room_left, room_right, wrote_both}
 use Rattle.forms.proofs.write_bounds.Goals as goal
 
-abbrev value : tie.Start → Value
-value s = value_of s.args.input.now s.args.l
-
--- LOOK: helper
-
-abbrev listed : tie.Start → List Statistic
-listed s = list_of s.args.list.now
-
--- LOOK: helper
-
-abbrev low : tie.Start → Table
-low s = against s.args.o (Least s.args.c) false (value s)
-
--- LOOK: helper
-
-abbrev high : tie.Start → Table
-high s = against s.args.o (Greatest s.args.c) true (value s)
-
--- LOOK: helper
-
 pub put_join-a-requires : goal.put_join-a-requires
 put_join-a-requires c =
-    room_word c.args.j (low s) (high s) _ _ _ c.requires.2
+    let value : Value = value_of c.args.input.now c.args.l in
+    let low : Table = against c.args.o (Least c.args.c) false value in
+    let high : Table = against c.args.o (Greatest c.args.c) true value in
+    room_word c.args.j low high _ _ _ c.requires.2
 
 pub write_against-b-requires : goal.write_against-b-requires
 write_against-b-requires c =
-    (c.requires.0, c.requires.1, room_left c.args.j (low s) (high s) _ _ _ _ _ c.requires.2 c.put_join-a.ensures)
+    let value : Value = value_of c.args.input.now c.args.l in
+    let low : Table = against c.args.o (Least c.args.c) false value in
+    let high : Table = against c.args.o (Greatest c.args.c) true value in
+    (c.requires.0, c.requires.1, room_left c.args.j low high _ _ _ _ _ c.requires.2 c.put_join-a.ensures)
 
 pub write_against-requires : goal.write_against-requires
 write_against-requires c =
-    (c.requires.0, c.requires.1, room_right c.args.j (low s) (high s) _ _ _ _ _ c.requires.2 c.put_join-a.ensures (listed s) _ _ _ c.write_against-b.ensures)
+    let value : Value = value_of c.args.input.now c.args.l in
+    let listed : List Statistic = list_of c.args.list.now in
+    let low : Table = against c.args.o (Least c.args.c) false value in
+    let high : Table = against c.args.o (Greatest c.args.c) true value in
+    (c.requires.0, c.requires.1, room_right c.args.j low high _ _ _ _ _ c.requires.2 c.put_join-a.ensures listed _ _ _ c.write_against-b.ensures)
 
 pub returns : goal.returns
 returns c =
-    wrote_both (listed s) c.args.j (low s) (high s) _ _ _ _ _ _ _ _ _ _ _ c.put_join-a.ensures c.write_against-b.ensures c.write_against.ensures
+    let value : Value = value_of c.args.input.now c.args.l in
+    let listed : List Statistic = list_of c.args.list.now in
+    let low : Table = against c.args.o (Least c.args.c) false value in
+    let high : Table = against c.args.o (Greatest c.args.c) true value in
+    wrote_both listed c.args.j low high _ _ _ _ _ _ _ _ _ _ _ c.put_join-a.ensures c.write_against-b.ensures c.write_against.ensures

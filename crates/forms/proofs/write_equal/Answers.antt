@@ -9,16 +9,6 @@ use Rattle.table.specs.Comparisons.{equal_form}
 use Rattle.writing.specs.WritingLaws.{room_wrapped, wrote_wrapped}
 use Rattle.forms.proofs.write_equal.Goals as goal
 
-abbrev value : tie.Start → Value
-value s = value_of s.args.input.now s.args.l
-
--- LOOK: helper
-
-abbrev listed : tie.Start → List Statistic
-listed s = list_of s.args.list.now
-
--- LOOK: helper
-
 pub wrap_null_count_check_expr-a-requires : goal.wrap_null_count_check_expr-a-requires
 wrap_null_count_check_expr-a-requires c =
     let w = c.requires.2.words in
@@ -26,8 +16,12 @@ wrap_null_count_check_expr-a-requires c =
 
 pub build_eq_statistics_expr-requires : goal.build_eq_statistics_expr-requires
 build_eq_statistics_expr-requires c =
-    (c.requires.0, c.requires.1, room_wrapped (listed s) c.args.c (equal_form c.args.c (value s)) _ _ _ _ _ c.requires.2 c.wrap_null_count_check_expr-a.ensures)
+    let value : Value = value_of c.args.input.now c.args.l in
+    let listed : List Statistic = list_of c.args.list.now in
+    (c.requires.0, c.requires.1, room_wrapped listed c.args.c (equal_form c.args.c value) _ _ _ _ _ c.requires.2 c.wrap_null_count_check_expr-a.ensures)
 
 pub returns : goal.returns
 returns c =
-    wrote_wrapped (listed s) _ _ _ _ _ _ _ _ c.args.c (equal_form c.args.c (value s)) c.wrap_null_count_check_expr-a.ensures c.build_eq_statistics_expr.ensures
+    let value : Value = value_of c.args.input.now c.args.l in
+    let listed : List Statistic = list_of c.args.list.now in
+    wrote_wrapped listed _ _ _ _ _ _ _ _ c.args.c (equal_form c.args.c value) c.wrap_null_count_check_expr-a.ensures c.build_eq_statistics_expr.ensures

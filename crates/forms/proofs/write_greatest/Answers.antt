@@ -11,16 +11,6 @@ use Rattle.table.specs.Tables.{against}
 use Rattle.writing.specs.WritingLaws.{room_wrapped, wrote_wrapped}
 use Rattle.forms.proofs.write_greatest.Goals as goal
 
-abbrev value : tie.Start → Value
-value s = value_of s.args.input.now s.args.l
-
--- LOOK: helper
-
-abbrev listed : tie.Start → List Statistic
-listed s = list_of s.args.list.now
-
--- LOOK: helper
-
 pub wrap_null_count_check_expr-a-requires : goal.wrap_null_count_check_expr-a-requires
 wrap_null_count_check_expr-a-requires c =
     let w = c.requires.2.words in
@@ -28,8 +18,12 @@ wrap_null_count_check_expr-a-requires c =
 
 pub write_against-requires : goal.write_against-requires
 write_against-requires c =
-    (c.requires.0, c.requires.1, room_wrapped (listed s) c.args.c (against c.args.o (Greatest c.args.c) false (value s)) _ _ _ _ _ c.requires.2 c.wrap_null_count_check_expr-a.ensures)
+    let value : Value = value_of c.args.input.now c.args.l in
+    let listed : List Statistic = list_of c.args.list.now in
+    (c.requires.0, c.requires.1, room_wrapped listed c.args.c (against c.args.o (Greatest c.args.c) false value) _ _ _ _ _ c.requires.2 c.wrap_null_count_check_expr-a.ensures)
 
 pub returns : goal.returns
 returns c =
-    wrote_wrapped (listed s) _ _ _ _ _ _ _ _ c.args.c (against c.args.o (Greatest c.args.c) false (value s)) c.wrap_null_count_check_expr-a.ensures c.write_against.ensures
+    let value : Value = value_of c.args.input.now c.args.l in
+    let listed : List Statistic = list_of c.args.list.now in
+    wrote_wrapped listed _ _ _ _ _ _ _ _ c.args.c (against c.args.o (Greatest c.args.c) false value) c.wrap_null_count_check_expr-a.ensures c.write_against.ensures

@@ -11,9 +11,7 @@ use Rattle.knowing.proofs.known_members.Goals as goal
 
 pub loop-i-init : goal.loop-i-init
 loop-i-init c =
-    (search rules, search rules, rw c.Known-member.ensures (known_nested _ _ _ _ _ _ _ _ c.requires.1))
-
--- LOOK: no step Known-member at After-known_member (known_member)
+    (search rules, search rules, rw c.known_member-k.ensures (known_nested _ _ _ _ _ _ _ _ c.requires.1))
 
 pub loop-i-preserved : goal.loop-i-preserved
 loop-i-preserved c =

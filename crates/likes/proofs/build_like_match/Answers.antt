@@ -13,38 +13,33 @@ use Rattle.likes.proofs.Laws.{whole_is, whole_fits}
 use Rattle.writing.specs.WritingLaws.{room_word, room_left, room_right, wrote_both}
 use Rattle.likes.proofs.build_like_match.Goals as goal
 
-abbrev listed : tie.Start → List Statistic
-listed s = list_of s.args.list.now
-
--- LOOK: helper
-
-abbrev low : tie.Start → Table
-low s = against AtMost (Least s.args.c) false (text s.args.upper.now)
-
--- LOOK: helper
-
-abbrev high : tie.Start → Table
-high s = against AtMost (Greatest s.args.c) true (text s.args.prefix.now)
-
--- LOOK: helper
-
 pub put_join-a-requires : goal.put_join-a-requires
 put_join-a-requires c =
-    room_word And (low s) (high s) _ _ _ c.requires.3
+    let low : Table = against AtMost (Least c.args.c) false (text c.args.upper.now) in
+    let high : Table = against AtMost (Greatest c.args.c) true (text c.args.prefix.now) in
+    room_word And low high _ _ _ c.requires.3
 
 pub write_against-b-requires : goal.write_against-b-requires
 write_against-b-requires c =
+    let low : Table = against AtMost (Least c.args.c) false (text c.args.upper.now) in
+    let high : Table = against AtMost (Greatest c.args.c) true (text c.args.prefix.now) in
     let u = c.whole-u.ensures in
-    (c.requires.0, whole_fits c.args.upper.now _ u c.requires.2, rw (whole_is _ _ u) (room_left And (low s) (high s) _ _ _ _ _ c.requires.3 c.put_join-a.ensures))
+    (c.requires.0, whole_fits c.args.upper.now _ u c.requires.2, rw (whole_is _ _ u) (room_left And low high _ _ _ _ _ c.requires.3 c.put_join-a.ensures))
 
 pub write_against-requires : goal.write_against-requires
 write_against-requires c =
+    let listed : List Statistic = list_of c.args.list.now in
+    let low : Table = against AtMost (Least c.args.c) false (text c.args.upper.now) in
+    let high : Table = against AtMost (Greatest c.args.c) true (text c.args.prefix.now) in
     let p = c.whole-p.ensures in
     let a = rw (whole_is _ _ c.whole-u.ensures) at c.write_against-b.ensures in
-    (c.requires.0, whole_fits c.args.prefix.now _ p c.requires.1, rw (whole_is _ _ p) (room_right And (low s) (high s) _ _ _ _ _ c.requires.3 c.put_join-a.ensures (listed s) _ _ _ a))
+    (c.requires.0, whole_fits c.args.prefix.now _ p c.requires.1, rw (whole_is _ _ p) (room_right And low high _ _ _ _ _ c.requires.3 c.put_join-a.ensures listed _ _ _ a))
 
 pub returns : goal.returns
 returns c =
+    let listed : List Statistic = list_of c.args.list.now in
+    let low : Table = against AtMost (Least c.args.c) false (text c.args.upper.now) in
+    let high : Table = against AtMost (Greatest c.args.c) true (text c.args.prefix.now) in
     let a = rw (whole_is _ _ c.whole-u.ensures) at c.write_against-b.ensures in
     let b = rw (whole_is _ _ c.whole-p.ensures) at c.write_against.ensures in
-    wrote_both (listed s) And (low s) (high s) _ _ _ _ _ _ _ _ _ _ _ c.put_join-a.ensures a b
+    wrote_both listed And low high _ _ _ _ _ _ _ _ _ _ _ c.put_join-a.ensures a b

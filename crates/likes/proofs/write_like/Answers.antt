@@ -9,16 +9,6 @@ use Rattle.table.specs.Tables.{Table}
 use Rattle.writing.specs.WritingLaws.{room_wrapped, wrote_wrapped}
 use Rattle.likes.proofs.write_like.Goals as goal
 
-abbrev listed : tie.Start → List Statistic
-listed s = list_of s.args.list.now
-
--- LOOK: helper
-
-abbrev form : tie.Start → Table
-form s = like_form s.args.c s.args.prefix.now s.args.upper.now
-
--- LOOK: helper
-
 pub wrap_null_count_check_expr-a-requires : goal.wrap_null_count_check_expr-a-requires
 wrap_null_count_check_expr-a-requires c =
     let w = c.requires.3.words in
@@ -26,8 +16,12 @@ wrap_null_count_check_expr-a-requires c =
 
 pub build_like_match-requires : goal.build_like_match-requires
 build_like_match-requires c =
-    (c.requires.0, c.requires.1, c.requires.2, room_wrapped (listed s) c.args.c (form s) _ _ _ _ _ c.requires.3 c.wrap_null_count_check_expr-a.ensures)
+    let listed : List Statistic = list_of c.args.list.now in
+    let form : Table = like_form c.args.c c.args.prefix.now c.args.upper.now in
+    (c.requires.0, c.requires.1, c.requires.2, room_wrapped listed c.args.c form _ _ _ _ _ c.requires.3 c.wrap_null_count_check_expr-a.ensures)
 
 pub returns : goal.returns
 returns c =
-    wrote_wrapped (listed s) _ _ _ _ _ _ _ _ c.args.c (form s) c.wrap_null_count_check_expr-a.ensures c.build_like_match.ensures
+    let listed : List Statistic = list_of c.args.list.now in
+    let form : Table = like_form c.args.c c.args.prefix.now c.args.upper.now in
+    wrote_wrapped listed _ _ _ _ _ _ _ _ c.args.c form c.wrap_null_count_check_expr-a.ensures c.build_like_match.ensures
