@@ -1,5 +1,4 @@
--- By whether the literal is null.
-use borrow.Author.Rules.{rules}
+-- By whether the literal is null. Assumes nothing.
 use mathlib.Core.Path.{sym, ◌∙◌}
 use Rattle.forms.specs.Forms.{not_distinct_null, not_distinct_other}
 use Rattle.forms.proofs.build_is_not_distinct_from.Goals as goal

@@ -1,5 +1,4 @@
--- A join's word, then its sides.
-use borrow.Author.Rules.{rules}
+-- A join's word, then its sides. Assumes nothing.
 use mathlib.Core.List.{List}
 use Rattle.statistics.specs.declared.Statistic.{Statistic}
 use Rattle.literals.specs.Literals.{Value, value_of}

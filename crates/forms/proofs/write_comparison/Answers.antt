@@ -1,5 +1,4 @@
--- The form is that of the operator's arm.
-use borrow.Author.Rules.{rules}
+-- The form is that of the operator's arm. Assumes nothing.
 use Rattle.forms.proofs.write_comparison.Goals as goal
 
 pub write_equal-requires : goal.write_equal-requires

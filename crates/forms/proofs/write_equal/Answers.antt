@@ -1,5 +1,4 @@
--- Wrapped: the words in front, then the form.
-use borrow.Author.Rules.{rules}
+-- Wrapped: the words in front, then the form. Assumes nothing.
 use native.Mathlib.Omega.{arith}
 use mathlib.Core.List.{List}
 use Rattle.statistics.specs.declared.Statistic.{Statistic}

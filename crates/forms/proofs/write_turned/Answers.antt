@@ -1,5 +1,4 @@
--- A comparison's form, or true.
-use borrow.Author.Rules.{rules}
+-- A comparison's form, or true. Assumes nothing.
 use Rattle.listing.specs.Listing.{list_of}
 use Rattle.forms.proofs.write_turned.Goals as goal
 

@@ -1,5 +1,4 @@
--- The cut range names the same bytes, and lies inside.
-use borrow.Author.Rules.{rules}
+-- The cut range names the same bytes, and lies inside. Assumes nothing.
 use mathlib.Core.Path.{◌∙◌}
 use Rattle.knowing.proofs.clipped.Goals as goal
 

@@ -1,5 +1,4 @@
--- A join, then what it comes to.
-use borrow.Author.Rules.{rules}
+-- A join, then what it comes to. Assumes nothing.
 use Rattle.knowing.proofs.join_known.Goals as goal
 
 pub returns : goal.returns

@@ -1,5 +1,4 @@
--- A comparison that can be turned stays open.
-use borrow.Author.Rules.{rules}
+-- A comparison that can be turned stays open. Assumes nothing.
 use Rattle.knowing.proofs.Laws.{turned_open, turned_true}
 use Rattle.knowing.proofs.known_comparison.Goals as goal
 

@@ -1,5 +1,4 @@
--- A text is judged by its upper bound; all else is unhandled.
-use borrow.Author.Rules.{rules}
+-- A text is judged by its upper bound; all else is unhandled. Assumes nothing.
 use Rattle.knowing.proofs.known_like.Goals as goal
 
 pub known_pattern-requires : goal.known_pattern-requires

@@ -1,5 +1,4 @@
--- By the number of literals: none, over the limit, or within it.
-use borrow.Author.Rules.{rules}
+-- By the number of literals: none, over the limit, or within it. Assumes nothing.
 use mathlib.Core.Path.{sym, ap, ◌∙◌}
 use Rattle.words.specs.Word.{words_of}
 use Rattle.table.specs.Tables.{known}

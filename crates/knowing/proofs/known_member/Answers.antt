@@ -1,5 +1,4 @@
--- The comparison with the literal of one word.
-use borrow.Author.Rules.{rules}
+-- The comparison with the literal of one word. Assumes nothing.
 use Rattle.knowing.proofs.known_member.Goals as goal
 
 pub returns : goal.returns

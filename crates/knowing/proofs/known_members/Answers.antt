@@ -1,12 +1,8 @@
--- What the members come to is what those before i come to, joined with those from i on.
+-- What the members come to is what those before i come to, joined with those from i on. Assumes nothing.
 use borrow.Author.Rules.{rules}
-use mathlib.Core.Path.{◌≡◌, sym, ◌∙◌}
-use Prim.Native.Nat.{◌+◌, ◌-◌, ◌≤◌}
-use Rattle.words.specs.Word.{words_of}
-use Rattle.predicate.specs.Predicates.{values_at}
-use Rattle.table.specs.Tables.{known}
-use Rattle.table.specs.Rewriting.{nested_table}
-use Rattle.knowing.specs.Knowns.{members_known, known_nested, members_next, members_end}
+use mathlib.Core.Path.{sym, ◌∙◌}
+use Prim.Native.Nat.{◌-◌}
+use Rattle.knowing.specs.Knowns.{known_nested, members_next, members_end}
 use Rattle.knowing.proofs.known_members.Goals as goal
 
 pub loop-i-init : goal.loop-i-init

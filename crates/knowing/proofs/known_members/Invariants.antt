@@ -1,12 +1,11 @@
--- What the members come to is what those before i come to, joined with those from i on.
-use borrow.Author.Rules.{rules}
-use mathlib.Core.Path.{◌≡◌, sym, ◌∙◌}
+-- What the members come to is what those before i come to, joined with those from i on. Assumes nothing.
+use mathlib.Core.Path.{◌≡◌}
 use Prim.Native.Nat.{◌+◌, ◌-◌, ◌≤◌}
 use Rattle.words.specs.Word.{words_of}
 use Rattle.predicate.specs.Predicates.{values_at}
 use Rattle.table.specs.Tables.{known}
 use Rattle.table.specs.Rewriting.{nested_table}
-use Rattle.knowing.specs.Knowns.{members_known, known_nested, members_next, members_end}
+use Rattle.knowing.specs.Knowns.{members_known}
 use Rattle.knowing.proofs.known_members.Given as goal
 
 abbrev pub invariant-loop-i : goal.invariant-loop-i

@@ -1,5 +1,4 @@
--- The search for the upper bound says whether there is one.
-use borrow.Author.Rules.{rules}
+-- The search for the upper bound says whether there is one. Assumes nothing.
 use native.Mathlib.Omega.{arith}
 use Rattle.text.specs.Upper.{upper_of, prefix_length}
 use Rattle.knowing.proofs.Laws.{bounded_open, bounded_true}

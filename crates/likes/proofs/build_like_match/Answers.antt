@@ -1,5 +1,4 @@
--- A join's word, then its sides, each against a whole text.
-use borrow.Author.Rules.{rules}
+-- A join's word, then its sides, each against a whole text. Assumes nothing.
 use mathlib.Core.Bool.{true, false}
 use mathlib.Core.List.{List}
 use Rattle.operators.specs.declared.Operator.TheVariants.{AtMost}

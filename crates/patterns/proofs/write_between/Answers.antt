@@ -1,5 +1,4 @@
--- The prefix stands at the front of its buffer, so LIKE's form is over it and the upper bound.
-use borrow.Author.Rules.{rules}
+-- The prefix stands at the front of its buffer, so LIKE's form is over it and the upper bound. Assumes nothing.
 use native.Mathlib.Omega.{arith}
 use mathlib.Core.Path.{refl}
 use Rattle.text.specs.Upper.{prefix_length}

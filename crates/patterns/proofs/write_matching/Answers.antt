@@ -1,5 +1,4 @@
--- A text has its pattern's form; all else is unhandled.
-use borrow.Author.Rules.{rules}
+-- A text has its pattern's form; all else is unhandled. Assumes nothing.
 use Rattle.listing.specs.Listing.{list_of}
 use Rattle.patterns.proofs.write_matching.Goals as goal
 

@@ -1,5 +1,4 @@
--- Where there is an upper bound the form is over it; else the pattern is unhandled.
-use borrow.Author.Rules.{rules}
+-- Where there is an upper bound the form is over it; else the pattern is unhandled. Assumes nothing.
 use native.Mathlib.Omega.{arith}
 use mathlib.Core.Path.{refl}
 use Rattle.listing.specs.Listing.{list_of}
