@@ -2,7 +2,7 @@
 use mathlib.Core.Path.{◌≡◌, sym, ◌∙◌}
 use mathlib.Core.List.{List}
 use mathlib.Core.Option.{Option}
-use Prim.Native.Nat.{ℕ, ◌-◌}
+use Prim.Native.Nat.{ℕ}
 use Rattle.increment.specs.declared.End.{End}
 use Rattle.increment.specs.declared.End.TheVariants.{Until, Absent}
 use Rattle.increment.specs.Outcome.{end_of, until_some, absent_none}

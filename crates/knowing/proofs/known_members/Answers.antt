@@ -1,7 +1,6 @@
 -- What the members come to is what those before i come to, joined with those from i on. Assumes nothing.
 use borrow.Author.Rules.{rules}
 use mathlib.Core.Path.{sym, ◌∙◌}
-use Prim.Native.Nat.{◌-◌}
 use Rattle.knowing.specs.Knowns.{known_nested, members_next, members_end}
 use Rattle.knowing.proofs.known_members.Goals as goal
 
