@@ -20,9 +20,7 @@ loop-i-preserved c =
     let e = c.one_if_open-m.ensures.0 in
     let b = c.one_if_open-m.ensures.1 in
     let i = c.loop-i.invariant in
-    (search rules, omega arith, rw (e, c.Known-member.ensures) (count_next a.schema.now a.input.now (words_of a.words.now) a.negated a.c a.flips a.n (a.at + 1) _ _ c.loop-i-test.true i.2))
-
--- LOOK: no step Known-member at After-known_member (known_member)
+    (search rules, omega arith, rw (e, c.known_member-k.ensures) (count_next a.schema.now a.input.now (words_of a.words.now) a.negated a.c a.flips a.n (a.at + 1) _ _ c.loop-i-test.true i.2))
 
 pub returns : goal.returns
 returns c =
