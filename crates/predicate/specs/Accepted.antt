@@ -11,7 +11,7 @@ use Rattle.words.specs.Pools.{Inside}
 use Rattle.words.specs.Tests.{or_other}
 use Rattle.words.specs.declared.Range.{Range}
 use Rattle.literals.specs.Signed.{Fits64, signed_fits}
-use Rattle.literals.specs.Literals.{Value, null, int, text, truth, value_of, value_at, value_bytes, literal_of, type_of, length_of, plain, suits, integer_type, text_type, truth_type}
+use Rattle.literals.specs.Literals.{Value, null, int, text, truth, value_of, value_at, value_bytes, literal_of, type_of, length_of, plain, integer_type, text_type, truth_type}
 use Rattle.literals.specs.LiteralLaws.{Plain}
 use Rattle.literals.specs.Suited.{Suited, suited, plain_null}
 use Rattle.literals.specs.declared.Literal.{Literal}

@@ -1,5 +1,5 @@
 -- A judged word leads to a refusal or to what stands behind it; each child is checked with a depth less.
-use Rattle.std.proofs.Common.{◌∙◌, ◌≡◌, ◌<◌, ◌/◌, ℕ, List, arith, length, rules, sym}
+use Rattle.std.proofs.Common.{◌∙◌, ◌≡◌, ◌<◌, ◌/◌, ℕ, List, length, rules, sym}
 use Rattle.words.specs.Word.{words_of}
 use Rattle.words.specs.WordLaws.{length_words}
 use Rattle.predicate.specs.CheckingLaws.{NodeSays, node_says, then_refused, then_passed}

@@ -1,9 +1,6 @@
 -- What is left of the literals decides.
-use borrow.Author.Rules.{rules}
-use mathlib.Core.Path.{◌≡◌, refl, sym, ◌∙◌}
+use mathlib.Core.Path.{refl, sym, ◌∙◌}
 use native.Mathlib.Omega.{arith}
-use Rattle.words.specs.Word.{words_of}
-use Rattle.predicate.specs.Checking.{check_literals}
 use Rattle.predicate.specs.CheckingLaws.{literals_none, literals_more, then_refused, then_passed}
 use Rattle.checking.proofs.check_literals.Goals as goal
 

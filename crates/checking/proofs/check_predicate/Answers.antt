@@ -1,5 +1,4 @@
 -- A refusal, no word left over, or some.
-use borrow.Author.Rules.{rules}
 use mathlib.Core.Path.{sym, ◌∙◌}
 use Rattle.words.specs.WordLaws.{length_words}
 use Rattle.predicate.specs.CheckingLaws.{fault_refused, fault_passed, fault_left}

@@ -1,5 +1,4 @@
 -- Each node has its own test.
-use borrow.Author.Rules.{rules}
 use Rattle.checking.proofs.columned.Goals as goal
 
 pub returns-in-TruthColumn : goal.returns-in-TruthColumn

@@ -1,5 +1,4 @@
 -- Each test decides its part of the definition.
-use borrow.Author.Rules.{rules}
 use borrow.Author.Tests.{eq-eqb, ne_eqb}
 use Rattle.checking.proofs.flippable.Goals as goal
 

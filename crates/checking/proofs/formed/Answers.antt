@@ -1,5 +1,4 @@
 -- Each test decides its part of the definition.
-use borrow.Author.Rules.{rules}
 use mathlib.Core.Path.{sym, ◌∙◌}
 use borrow.Author.Tests.{lt-ltb, le-ltb}
 use Rattle.predicate.specs.Checking.{formed}

@@ -1,5 +1,4 @@
 -- By the three tests.
-use borrow.Author.Rules.{rules}
 use Rattle.checking.proofs.literal_fault.Goals as goal
 
 pub returns : goal.returns

@@ -1,5 +1,4 @@
 -- Each test decides its part of the definition; the sum of bytes is tested without the sum.
-use borrow.Author.Rules.{rules}
 use mathlib.Core.Path.{sym}
 use Prim.Native.Nat.{◌+◌}
 use native.Mathlib.Omega.{arith}

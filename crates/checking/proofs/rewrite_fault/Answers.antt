@@ -1,5 +1,4 @@
 -- 1, 2, 3, whole words, then the predicate.
-use borrow.Author.Rules.{rules}
 use borrow.Author.Tests.{eq-eqb, ne_eqb, le-leb, lt-leb}
 use Rattle.predicate.specs.Calls.{rewrite_fault}
 use Rattle.checking.proofs.rewrite_fault.Goals as goal

@@ -1,5 +1,4 @@
 -- Both tests decide.
-use borrow.Author.Rules.{rules}
 use borrow.Author.Tests.{le-leb, lt-leb}
 use Rattle.checking.proofs.schema_fine.Goals as goal
 

@@ -1,5 +1,4 @@
 -- Each test decides its part of the definition; what suits as a text lies inside the pool.
-use borrow.Author.Rules.{rules}
 use mathlib.Core.Path.{sym, ◌∙◌}
 use borrow.Author.Tests.{eq-eqb, ne_eqb}
 use Rattle.checking.proofs.Laws.{text_inside}

@@ -1,11 +1,8 @@
 -- What is left of the schema decides.
-use borrow.Author.Rules.{rules}
-use mathlib.Core.Path.{◌≡◌, refl, sym, ◌∙◌}
+use mathlib.Core.Path.{◌≡◌}
 use Prim.Native.Nat.{◌≤◌, ◌-◌}
-use lib.ListN.{length, drop, drop_of_length-le}
-use borrow.Author.Tests.{le-leb, lt-leb}
+use lib.ListN.{length, drop}
 use Rattle.predicate.specs.Checking.{types_fine}
-use Rattle.checking.proofs.Laws.{types_at}
 use Rattle.checking.proofs.types_fine.Given as goal
 
 abbrev pub invariant-loop-i : goal.invariant-loop-i

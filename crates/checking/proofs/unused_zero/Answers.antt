@@ -1,5 +1,4 @@
 -- The test decides.
-use borrow.Author.Rules.{rules}
 use Rattle.checking.proofs.unused_zero.Goals as goal
 
 pub returns-else-used : goal.returns-else-used
