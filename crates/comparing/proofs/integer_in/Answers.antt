@@ -7,6 +7,5 @@ use Rattle.comparing.proofs.integer_in.Goals as goal
 
 pub returns : goal.returns
 returns c =
-    rw (to_z-of_z w64 c.of_word.result (sfits_of c.of_word.type-inv), c.of_word.ensures, c.number_of_lem.ensures)
+    rw (to_z-of_z w64 c.of_word.result (sfits_of c.of_word.type_inv), c.of_word.ensures, c.number_of.ensures)
 
--- LOOK: no step number_of_lem at After-number_of (number_of)
