@@ -1,9 +1,9 @@
 -- The kind picks the law of its case.
 use borrow.Author.Rules.{rules}
 use mathlib.Core.Path.{sym, ◌∙◌}
-use Prim.Native.Nat.{zero-le, ◌+◌}
+use Prim.Native.Nat.{◌+◌, ◌≤◌}
 use lib.ListN.{get_or}
-use Rattle.words.specs.Arms.{next}
+use native.Mathlib.Omega.{arith}
 use Rattle.words.specs.Word.{words_of}
 use Rattle.evaluating.specs.Steps.{step_always, step_and, step_or, step_against, step_positive, step_differ, step_holds, step_turned, step_other, against_asks}
 use Rattle.evaluating.proofs.step_at.Goals as goal
@@ -66,7 +66,5 @@ pub returns-in_default : goal.returns-in_default
 returns-in_default c =
     let a = c.args in
     let ws = words_of a.table.now in
-    let r = c.in_default.in_default-own.rest in
-    let four = next (next (next (next zero-le r.0.0.0.0.0.0.0.1) r.0.0.0.0.0.0.1) r.0.0.0.0.0.1) r.0.0.0.0.1 in
-    let eight = next (next (next (next four r.0.0.0.1) r.0.0.1) r.0.1) r.1 in
+    let eight : 8 ≤ c.kind_of.result = omega arith in
     sym (step_other a.cells.now (words_of a.row.now) a.pool.now (get_or ws a.at 0) (get_or ws (a.at + 1) 0) (rw (c.kind_of.ensures, c.node_word-w.ensures) at eight))

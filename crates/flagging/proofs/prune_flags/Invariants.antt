@@ -1,12 +1,7 @@
 -- After i turns the first i flags are stored.
-use borrow.Author.Rules.{rules}
-use native.Mathlib.Omega.{arith}
-use mathlib.Core.Path.{◌≡◌, refl, ◌∙◌}
-use Prim.Native.Nat.{◌-◌, ◌+◌, ◌*◌, ◌/◌, ◌≤◌}
-use native.Mathlib.Nat.{le_antisymm}
-use lib.ListN.{length, length-set}
-use lib.Seq.{sets}
-use Rattle.flagging.specs.Flags.{width, flags_for, flags_none, flag_at, flag_stored, next_row, one_more, few_answers}
+use Rattle.std.proofs.Common.{◌≡◌, ◌-◌, ◌*◌, ◌/◌, ◌≤◌, length}
+use Rattle.std.proofs.lemmas.List.Edits.{sets}
+use Rattle.flagging.specs.Flags.{width, flags_for}
 use Rattle.flagging.proofs.prune_flags.Given as goal
 
 abbrev pub invariant-loop-i : goal.invariant-loop-i
