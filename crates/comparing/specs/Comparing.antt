@@ -1,5 +1,5 @@
 -- Comparisons of values by the orders of their types, and operators that are asked of an order. Assumes nothing.
-use Rattle.std.specs.Prelude.{◌≡◌, refl, Bool, true, false, not, ◌&&◌, List, ℕ, ◌-◌, ◌/◌, ◌^◌, eqb, leb, ltb, ℤ, pos}
+use Rattle.std.specs.Prelude.{◌≡◌, refl, Bool, true, false, not, ◌&&◌, List, ℕ, ◌/◌, ◌^◌, eqb, leb, ltb, ℤ, pos}
 use Rattle.std.proofs.Common.{sym, ap, ◌∙◌, arith, leb-true, leb-false, eq-eqb, ne_eqb}
 use Rattle.std.proofs.Math.Option.{Option, some, none}
 use Rattle.words.specs.Word.{word_at}

@@ -1,5 +1,4 @@
 -- Two integers at once, or any two literals.
-use borrow.Author.Rules.{rules}
 use mathlib.Core.Path.{sym, ◌∙◌}
 use Prim.Native.Nat.{◌/◌, ◌^◌}
 use mir.Syntax.{w64}

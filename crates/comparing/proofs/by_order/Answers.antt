@@ -1,5 +1,4 @@
 -- An order is asked; apart is unknown.
-use borrow.Author.Rules.{rules}
 use Rattle.comparing.proofs.by_order.Goals as goal
 
 pub returns-in-By : goal.returns-in-By

@@ -1,5 +1,4 @@
 -- Both texts are lent out of their pools.
-use borrow.Author.Rules.{rules}
 use Rattle.comparing.proofs.compare_texts.Goals as goal
 
 pub operand_bytes-x-requires : goal.operand_bytes-x-requires

@@ -1,5 +1,4 @@
 -- Values of one type by its order, others apart.
-use borrow.Author.Rules.{rules}
 use mathlib.Core.Path.{ap, ◌∙◌}
 use mathlib.Core.Option.{some}
 use borrow.Author.Rules.{sfits_of}

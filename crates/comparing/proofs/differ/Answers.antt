@@ -1,5 +1,4 @@
 -- Two counts differ as numbers.
-use borrow.Author.Rules.{rules}
 use mathlib.Core.Path.{sym, ◌∙◌}
 use Rattle.comparing.specs.Comparing.{differ_is}
 use Rattle.comparing.proofs.differ.Goals as goal

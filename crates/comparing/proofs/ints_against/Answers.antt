@@ -1,5 +1,4 @@
 -- The order of the integers is asked.
-use borrow.Author.Rules.{rules}
 use mir.Syntax.{w64}
 use mir.ValLaws.{to_z-of_z}
 use mathlib.Core.Path.{◌∙◌}
