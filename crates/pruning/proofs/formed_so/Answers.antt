@@ -1,5 +1,4 @@
 -- The first test that fails decides. Assumes nothing.
-use borrow.Author.Rules.{rules}
 use native.Mathlib.Nat.{div-one}
 use borrow.Author.Tests.{lt-ltb, le-ltb}
 use Rattle.pruning.proofs.formed_so.Goals as goal

@@ -1,11 +1,6 @@
 -- What is left of the list, from a place on, is fine or not. Assumes nothing.
-use borrow.Author.Rules.{rules}
-use mathlib.Core.Path.{◌≡◌, refl, sym, ap, ◌∙◌}
+use mathlib.Core.Path.{refl, sym, ap, ◌∙◌}
 use mathlib.Core.Bool.{not}
-use Prim.Native.Nat.{◌-◌, ◌/◌}
-use lib.ListN.{length, drop}
-use Rattle.words.specs.Word.{words_of}
-use Rattle.pruning.specs.TableChecking.{guarantees_fine}
 use Rattle.pruning.specs.CheckingLaws.{guarantees_end, guarantee_faulty, guarantee_next}
 use Rattle.pruning.proofs.guarantees_fine.Goals as goal
 

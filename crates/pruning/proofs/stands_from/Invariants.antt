@@ -1,11 +1,9 @@
 -- What is left of the list, from a place on, has the word or not. Assumes nothing.
-use borrow.Author.Rules.{rules}
-use mathlib.Core.Path.{◌≡◌, refl, sym, ◌∙◌}
+use mathlib.Core.Path.{◌≡◌}
 use Prim.Native.Nat.{◌-◌, ◌/◌}
 use lib.ListN.{length, drop}
 use Rattle.words.specs.Word.{words_of}
 use Rattle.pruning.specs.TableChecking.{stands_in}
-use Rattle.pruning.specs.CheckingLaws.{stands_end, stands_here, stands_further}
 use Rattle.pruning.proofs.stands_from.Given as goal
 
 abbrev pub invariant-loop-j : goal.invariant-loop-j

@@ -1,11 +1,9 @@
 -- What is left of the list, from a place on, is fine or not. Assumes nothing.
-use borrow.Author.Rules.{rules}
-use mathlib.Core.Path.{◌≡◌, refl, sym, ◌∙◌}
+use mathlib.Core.Path.{◌≡◌}
 use Prim.Native.Nat.{◌-◌, ◌/◌}
 use lib.ListN.{length, drop}
 use Rattle.words.specs.Word.{words_of}
 use Rattle.pruning.specs.TableChecking.{statistics_fine}
-use Rattle.pruning.specs.CheckingLaws.{statistics_end, statistic_faulty, statistic_twice, statistic_next}
 use Rattle.pruning.proofs.statistics_fine.Given as goal
 
 abbrev pub invariant-loop-i : goal.invariant-loop-i

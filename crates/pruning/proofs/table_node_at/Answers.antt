@@ -1,5 +1,4 @@
 -- A word of the table with the word behind it, or past the end. Assumes nothing.
-use borrow.Author.Rules.{rules}
 use mathlib.Core.Path.{sym, ◌∙◌}
 use Rattle.words.specs.WordLaws.{words_at}
 use Rattle.pruning.specs.NodeLaws.{node_past}
