@@ -1,5 +1,5 @@
 -- The prefix is no longer than the pattern.
-use Rattle.std.proofs.Common.{◌≤◌, length, arith, sym}
+use Rattle.std.proofs.Common.{arith, sym}
 use lib.Seq.{length-take-le}
 use Rattle.text.specs.Upper.{prefix_length}
 use Rattle.textcases.proofs.show_prefix.Goals as goal

@@ -1,8 +1,6 @@
 -- The upper bound has at most one byte more than the pattern.
-use Rattle.std.proofs.Common.{◌≤◌, length, arith, sym, ◌∙◌}
-use lib.Seq.{length-take-le}
+use Rattle.std.proofs.Common.{arith}
 use Rattle.text.specs.Upper.{prefix_length}
-use Rattle.increment.specs.Outcome.{upper_end}
 use Rattle.textcases.proofs.show_upper.Goals as goal
 
 pub upper_bound-r-requires : goal.upper_bound-r-requires
