@@ -1,5 +1,4 @@
 -- Their number, then each of them. Assumes nothing.
-use borrow.Author.Rules.{rules}
 use Rattle.cells.proofs.answers_fine.Goals as goal
 
 pub returns-then-not-answers_hold : goal.returns-then-not-answers_hold

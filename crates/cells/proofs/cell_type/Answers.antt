@@ -1,5 +1,4 @@
 -- Each statistic has its type. Assumes nothing.
-use borrow.Author.Rules.{rules}
 use Rattle.cells.proofs.cell_type.Goals as goal
 
 pub returns-in-Least : goal.returns-in-Least

@@ -1,10 +1,8 @@
 -- What is left of the column is fine or not. Assumes nothing.
-use borrow.Author.Rules.{rules}
-use native.Mathlib.Omega.{arith}
-use mathlib.Core.Path.{◌≡◌, refl, sym, ◌∙◌}
-use Prim.Native.Nat.{◌-◌, ◌+◌, ◌*◌, ◌/◌, ◌≤◌}
+use mathlib.Core.Path.{◌≡◌}
+use Prim.Native.Nat.{◌+◌, ◌*◌, ◌/◌, ◌≤◌}
 use lib.ListN.{length}
-use Rattle.cells.specs.Columns.{column_from, column_end, column_faulty, column_next, column_room}
+use Rattle.cells.specs.Columns.{column_from}
 use Rattle.cells.proofs.cells_fine.Given as goal
 
 abbrev pub invariant-loop-left : goal.invariant-loop-left

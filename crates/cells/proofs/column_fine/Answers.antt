@@ -1,5 +1,4 @@
 -- Integers, or any type. Assumes nothing.
-use borrow.Author.Rules.{rules}
 use Rattle.cells.proofs.column_fine.Goals as goal
 
 pub returns-then-kind-eq-INTEGER : goal.returns-then-kind-eq-INTEGER

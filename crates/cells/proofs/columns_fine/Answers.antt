@@ -1,11 +1,9 @@
 -- What is left of the columns is fine or not. Assumes nothing.
 use borrow.Author.Rules.{rules}
 use native.Mathlib.Omega.{arith}
-use mathlib.Core.Path.{◌≡◌, refl, sym, ap, ◌∙◌}
+use mathlib.Core.Path.{refl, sym, ap, ◌∙◌}
 use mathlib.Core.Bool.{not}
-use Prim.Native.Nat.{◌-◌, ◌/◌, ◌≤◌}
-use lib.ListN.{length}
-use Rattle.cells.specs.Columns.{columns_from, columns_end, columns_faulty, columns_next, columns_all}
+use Rattle.cells.specs.Columns.{columns_end, columns_faulty, columns_next, columns_all}
 use Rattle.cells.proofs.columns_fine.Goals as goal
 
 pub loop-p-init : goal.loop-p-init

@@ -1,10 +1,8 @@
 -- What is left of the columns is fine or not. Assumes nothing.
-use borrow.Author.Rules.{rules}
-use native.Mathlib.Omega.{arith}
-use mathlib.Core.Path.{◌≡◌, refl, sym, ◌∙◌}
+use mathlib.Core.Path.{◌≡◌}
 use Prim.Native.Nat.{◌-◌, ◌/◌, ◌≤◌}
 use lib.ListN.{length}
-use Rattle.cells.specs.Columns.{columns_from, columns_end, columns_faulty, columns_next, columns_all}
+use Rattle.cells.specs.Columns.{columns_from}
 use Rattle.cells.proofs.columns_fine.Given as goal
 
 abbrev pub invariant-loop-p : goal.invariant-loop-p

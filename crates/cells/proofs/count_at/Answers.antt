@@ -1,5 +1,4 @@
 -- An absent cell, or the number that its word names. Assumes nothing.
-use borrow.Author.Rules.{rules}
 use borrow.Author.Tests.{eq-eqb, ne_eqb}
 use Rattle.cells.proofs.count_at.Goals as goal
 

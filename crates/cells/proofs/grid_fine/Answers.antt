@@ -1,10 +1,7 @@
 -- As many cells as containers times statistics, then the columns. Assumes nothing.
-use borrow.Author.Rules.{rules}
 use native.Mathlib.Omega.{arith}
 use mathlib.Core.Path.{sym, ◌∙◌}
-use Prim.Native.Nat.{◌/◌}
-use lib.ListN.{length}
-use Rattle.cells.specs.Grids.{held, grid_unfit, grid_fits}
+use Rattle.cells.specs.Grids.{grid_unfit, grid_fits}
 use Rattle.cells.proofs.grid_fine.Goals as goal
 
 pub returns-then-grid-containers : goal.returns-then-grid-containers

@@ -1,12 +1,10 @@
 -- What is left of the column is fine or not. Assumes nothing.
 use borrow.Author.Rules.{rules}
 use native.Mathlib.Omega.{arith}
-use mathlib.Core.Path.{◌≡◌, refl, sym, ap, ◌∙◌}
+use mathlib.Core.Path.{refl, sym, ap, ◌∙◌}
 use mathlib.Core.Bool.{not}
-use Prim.Native.Nat.{◌-◌, ◌+◌, ◌*◌, ◌/◌, ◌≤◌}
-use lib.ListN.{length}
 use Rattle.literals.specs.Literals.{integer_type}
-use Rattle.cells.specs.Columns.{column_from, column_end, column_faulty, column_next, column_room}
+use Rattle.cells.specs.Columns.{column_end, column_faulty, column_next, column_room}
 use Rattle.cells.proofs.integers_fine.Goals as goal
 
 pub loop-left-init : goal.loop-left-init

@@ -1,5 +1,4 @@
 -- Whole, or cut. Assumes nothing.
-use borrow.Author.Rules.{rules}
 use Rattle.cells.proofs.number_of.Goals as goal
 
 pub returns-then-at-pool : goal.returns-then-at-pool

@@ -1,9 +1,5 @@
 -- What is left of the answers is up to two or not. Assumes nothing.
-use borrow.Author.Rules.{rules}
-use mathlib.Core.Path.{◌≡◌, refl, sym, ◌∙◌}
-use Prim.Native.Nat.{◌-◌}
-use lib.ListN.{length, drop}
-use Rattle.pruning.specs.Cells.{up_to_two}
+use mathlib.Core.Path.{refl, sym, ◌∙◌}
 use Rattle.cells.specs.Grids.{two_end, two_faulty, two_next}
 use Rattle.cells.proofs.up_to_two.Goals as goal
 
