@@ -1,4 +1,4 @@
--- The way of the node says what is written: a leaf, a constant, one side, or a join's word and both sides.
+-- The way of the node says what is written: a leaf, a constant, one side, or a join's word and both sides. Assumes nothing.
 use borrow.Author.Rules.{rules}
 use Rattle.predicate.specs.Predicates.{read_zero}
 use Rattle.listing.specs.Listing.{list_of}

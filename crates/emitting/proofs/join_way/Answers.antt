@@ -1,4 +1,4 @@
--- What both sides come to says how they fold.
+-- What both sides come to says how they fold. Assumes nothing.
 use borrow.Author.Rules.{rules}
 use Rattle.words.specs.Word.{words_of}
 use Rattle.predicate.specs.Predicates.{predicate_at}

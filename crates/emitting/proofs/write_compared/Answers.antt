@@ -1,4 +1,4 @@
--- The form of the turned comparison.
+-- The form of the turned comparison. Assumes nothing.
 use borrow.Author.Rules.{rules}
 use Rattle.emitting.proofs.write_compared.Goals as goal
 

@@ -1,4 +1,4 @@
--- One word, by the constant.
+-- One word, by the constant. Assumes nothing.
 use borrow.Author.Rules.{rules}
 use Rattle.emitting.proofs.write_constant.Goals as goal
 

@@ -1,4 +1,4 @@
--- Where the node was read, the predicate is the node's; then each arm.
+-- Where the node was read, the predicate is the node's; then each arm. Assumes nothing.
 use mathlib.Core.Path.{◌≡◌, subst}
 use mathlib.Core.List.{List}
 use Prim.Native.Nat.{ℕ, ◌-◌, ◌<◌}

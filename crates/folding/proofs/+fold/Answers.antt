@@ -1,4 +1,4 @@
--- The node's step says whether the predicate is a join of two, or what it comes to.
+-- The node's step says whether the predicate is a join of two, or what it comes to. Assumes nothing.
 use borrow.Author.Rules.{rules}
 use Prim.Native.Nat.{◌-◌, ◌+◌}
 use Rattle.words.specs.Word.{words_of}

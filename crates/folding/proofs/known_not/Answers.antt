@@ -1,4 +1,4 @@
--- Where the node was read, the predicate is the node's; then each arm.
+-- Where the node was read, the predicate is the node's; then each arm. Assumes nothing.
 use Rattle.predicate.specs.Predicates.{read_zero, read_node}
 use Rattle.folding.proofs.known_not.Goals as goal
 

@@ -1,4 +1,4 @@
--- Where the node was read, the predicate is the node's; then each arm.
+-- Where the node was read, the predicate is the node's; then each arm. Assumes nothing.
 use mathlib.Core.Path.{sym, ap, ◌∙◌}
 use Rattle.literals.specs.Literals.{value_of}
 use Rattle.predicate.specs.Predicates.{read_node}

@@ -1,4 +1,4 @@
--- Those counted and those that are left are all.
+-- Those counted and those that are left are all. Assumes nothing.
 use borrow.Author.Rules.{rules}
 use mathlib.Core.Path.{◌≡◌}
 use Prim.Native.Nat.{◌+◌, ◌-◌, ◌≤◌}

@@ -1,4 +1,4 @@
--- By the number of open members, then by IN or NOT IN.
+-- By the number of open members, then by IN or NOT IN. Assumes nothing.
 use borrow.Author.Tests.{eq-eqb, ne_eqb}
 use Rattle.members.proofs.has_form.Goals as goal
 

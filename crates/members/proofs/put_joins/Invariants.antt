@@ -1,4 +1,4 @@
--- The words put so far, and one more.
+-- The words put so far, and one more. Assumes nothing.
 use borrow.Author.Rules.{rules}
 use mathlib.Core.Path.{◌≡◌, refl}
 use Prim.Native.Nat.{◌-◌, ◌≤◌}

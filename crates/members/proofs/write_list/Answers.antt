@@ -1,4 +1,4 @@
--- By the number of literals, and of those that stay.
+-- By the number of literals, and of those that stay. Assumes nothing.
 use borrow.Author.Rules.{rules}
 use mathlib.Core.Path.{sym, ◌∙◌}
 use Prim.Native.Nat.{◌+◌}

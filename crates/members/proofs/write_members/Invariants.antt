@@ -1,4 +1,4 @@
--- Writing the members that are left is writing all.
+-- Writing the members that are left is writing all. Assumes nothing.
 use borrow.Author.Rules.{rules}
 use mathlib.Core.Path.{◌≡◌, refl}
 use Prim.Native.Nat.{◌+◌, ◌-◌, ◌≤◌}

@@ -1,4 +1,4 @@
--- The joins, then the members.
+-- The joins, then the members. Assumes nothing.
 use Prim.Native.Nat.{◌+◌}
 use Rattle.words.specs.Word.{words_of}
 use Rattle.table.specs.Rewriting.{list_joining}
