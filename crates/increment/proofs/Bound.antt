@@ -10,7 +10,7 @@ use lib.Seq.{drop-append_seam}
 use Rattle.words.specs.Stores.{written, sets_front, length_written, take_written}
 use Rattle.text.specs.Utf8.{Utf8}
 use Rattle.text.specs.Pattern.{prefix_of, rest_of}
-use Rattle.text.specs.Match.{prefix_utf8}
+use Rattle.text.proofs.Match.{prefix_utf8}
 use Rattle.text.specs.Wrote.{Wrote}
 use Rattle.text.specs.Upper.{pick, increment_of, upper_of}
 use Rattle.increment.specs.declared.End.{End}

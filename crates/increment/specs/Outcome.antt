@@ -5,7 +5,8 @@ use Rattle.std.proofs.Math.Option.{Option, some, none}
 use Rattle.words.specs.Stores.{written, take_written}
 use Rattle.text.specs.Utf8.{Utf8, bytes_of}
 use Rattle.text.specs.Increment.{Raise}
-use Rattle.text.specs.Upper.{upper_of, upper_length}
+use Rattle.text.specs.Upper.{upper_of}
+use Rattle.text.proofs.Upper.{upper_length}
 use Rattle.increment.specs.declared.Next.{Next}
 use Rattle.increment.specs.declared.Next.TheVariants.{To, Nothing}
 use Rattle.increment.specs.declared.Rise.{Rise}

@@ -85,19 +85,6 @@ negated_is (negsuc n) y e = go (eqb n (2 ^ 63 - 1)) e
     go true e = cc
     go false e = cc
 
--- and has 64 bits, as the one minus that has not is left unhandled
-pub negated_fits : (z y : ℤ) → negated z ≡ To y → Fits64 z → Fits64 y
-negated_fits (pos zero) y e h = rw (negated_is (pos zero) y e) h
-negated_fits (pos (suc n)) y e h = rw (negated_is (pos (suc n)) y e) (omega arith)
-negated_fits (negsuc n) y e h = rw (negated_is (negsuc n) y e) (go (eqb n (2 ^ 63 - 1)) refl)
-  where
-    go : (t : Bool) → eqb n (2 ^ 63 - 1) ≡ t → suc n < 2 ^ 63
-    go true f =
-        let g : To y ≡ Unhandled = sym e ∙ ap (λ k. negated (negsuc k)) (eqb-true n (2 ^ 63 - 1) f) ∙ negated_least in
-        let z : ◌≡◌ {A = ℕ} 0 1 = cc in
-        absurd (omega arith)
-    go false f = let k = eqb-false n (2 ^ 63 - 1) f in omega arith
-
 ltb_leb : (m n : ℕ) → ltb m n ≡ not (leb n m)
 ltb_leb m n = go (leb n m) refl
   where

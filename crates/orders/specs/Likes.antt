@@ -7,7 +7,8 @@ use Rattle.operators.specs.declared.Operator.TheVariants.{AtMost}
 use Rattle.text.specs.Utf8.{Utf8}
 use Rattle.text.specs.Pattern.{prefix_of}
 use Rattle.text.specs.Match.{like_text}
-use Rattle.text.specs.Upper.{upper_of, upper_bounds}
+use Rattle.text.specs.Upper.{upper_of}
+use Rattle.text.proofs.Upper.{upper_bounds}
 use Rattle.orders.specs.Order.{compares, compares_test}
 use Rattle.orders.specs.Forms.{both}
 use Rattle.orders.specs.Instances.{texts}

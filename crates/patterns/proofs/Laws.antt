@@ -11,7 +11,8 @@ use Rattle.limits.specs.Limits.{max_literal_bytes}
 use Rattle.words.specs.Stores.{written, sets_front, take_written, length_written}
 use Rattle.text.specs.Utf8.{Utf8}
 use Rattle.text.specs.Pattern.{prefix_of}
-use Rattle.text.specs.Upper.{upper_of, prefix_length, upper_length}
+use Rattle.text.specs.Upper.{upper_of, prefix_length}
+use Rattle.text.proofs.Upper.{upper_length}
 use Rattle.text.specs.Wrote.{Wrote}
 use Rattle.increment.specs.declared.End.{End}
 use Rattle.increment.specs.declared.End.TheVariants.{Until, Absent}

@@ -18,7 +18,7 @@ use Rattle.literals.specs.declared.Literal.{Literal}
 use Rattle.literals.specs.declared.Literal.TheVariants.{Null, Int, Text, Truth}
 use Rattle.text.specs.Utf8.{Utf8}
 use Rattle.text.specs.Machine.{is_utf8}
-use Rattle.text.specs.Valid.{utf8_iff}
+use Rattle.text.proofs.Valid.{utf8_iff}
 use Rattle.kleene.specs.declared.Joining.{Joining}
 use Rattle.predicate.specs.Nodes.{count_of}
 use Rattle.predicate.specs.Predicates.{Predicate, constant, join, not, column, is_null, is_not_null, comparison, list, like, Read, values_at, node_at, node_predicate, then_not, pair_of, predicate_at, length_values}

@@ -14,7 +14,8 @@ use Rattle.kleene.specs.declared.Joining.{Joining}
 use Rattle.literals.specs.Signed.{bits_of}
 use Rattle.literals.specs.Literals.{Value, null, int, text, truth, value_bytes}
 use Rattle.text.specs.Pattern.{prefix_of}
-use Rattle.text.specs.Upper.{upper_of, prefix_length, upper_length}
+use Rattle.text.specs.Upper.{upper_of, prefix_length}
+use Rattle.text.proofs.Upper.{upper_length}
 use Rattle.predicate.specs.declared.Column.{Column}
 use Rattle.predicate.specs.Predicates.{Predicate, join, not, column, is_null, is_not_null, comparison, list}
 use Rattle.predicate.specs.Measures.{leaves, depth, listed, values_bytes, literal_bytes}

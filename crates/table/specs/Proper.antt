@@ -8,11 +8,13 @@ use Rattle.operators.specs.Operators.{code_of}
 use Rattle.operators.specs.declared.Operator.{Operator}
 use Rattle.operators.specs.declared.Operator.TheVariants.{Equal, NotEqual, Below, AtMost, Above, AtLeast, Distinct, NotDistinct}
 use Rattle.kleene.specs.declared.Joining.{Joining}
-use Rattle.literals.specs.Signed.{Fits64, negated_fits}
+use Rattle.literals.specs.Signed.{Fits64}
+use Rattle.literals.proofs.Signed.{negated_fits}
 use Rattle.literals.specs.Literals.{Value, null, int, text, truth, integer_type, text_type, truth_type}
 use Rattle.literals.specs.LiteralLaws.{Plain}
 use Rattle.text.specs.Pattern.{prefix_of}
-use Rattle.text.specs.Upper.{upper_of, prefix_length, upper_length}
+use Rattle.text.specs.Upper.{upper_of, prefix_length}
+use Rattle.text.proofs.Upper.{upper_length}
 use Rattle.predicate.specs.declared.Column.{Column}
 use Rattle.predicate.specs.Predicates.{Predicate}
 use Rattle.predicate.specs.Checking.{type_in}

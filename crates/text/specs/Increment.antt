@@ -63,7 +63,7 @@ allowed_scalar c e =
     ⊎_elim (λ p. inl p) (λ p. inr (omega arith, omega arith))
     (outside 0xD800 0xDFFF c (or_left (within 0xD800 0xDFFF c) (within 0xFDD0 0xFDEF c || within 0xFFFE 0xFFFF c) h.0))
 
-raised_is : (c d : ℕ) → raised c ≡ some d → (d ≡ suc c) × (allowed d ≡ true)
+pub raised_is : (c d : ℕ) → raised c ≡ some d → (d ≡ suc c) × (allowed d ≡ true)
 unfolding raised
 raised_is c d e = go (allowed (suc c)) refl e
   where
@@ -92,14 +92,6 @@ grow c d f g = go (size c) (size d)
     go (four a e) (two b b' h) = rw (e, h) (omega arith)
     go (four a e) (three b b' h) = rw (e, h) (omega arith)
     go (four a e) (four b h) = rw (e, h) (omega arith)
-
-pub raises_one : Raises raised
-raises_one =
-    record {
-      above = λ c d e. let h = (raised_is c d e).0 in omega arith;
-      scalar = λ c d e. allowed_scalar d (raised_is c d e).1;
-      grows = λ c d e. let h = (raised_is c d e).0 in grow c d (λ k. omega arith) (λ k. omega arith);
-    }
 
 -- ---- the order theorem
 

@@ -2,7 +2,6 @@ pub mod Utf8
 pub mod Increment
 pub mod Chars
 pub mod Machine
-pub mod Valid
 pub mod Pattern
 pub mod Wrote
 pub mod Match

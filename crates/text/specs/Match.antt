@@ -136,21 +136,13 @@ rest_bytes e (c ∷ p) = go (shape c) (λ e. rest_bytes e p)
     go (long a b bs q l t) h =
         rw (q, (plain e c a).0, (plain e c a).1) (rest_high e b (bs ++ bytes_of p) (omega arith) ∙ rest_conts bs (bytes_of p) t ∙ h false)
 
-bytes_none : (p : List ℕ) → p ≡ [] → bytes_of p ≡ []
+pub bytes_none : (p : List ℕ) → p ≡ [] → bytes_of p ≡ []
 unfolding bytes_of
 bytes_none p e = rw e
 
-pub like_begins : (p s : List ℕ) → like p false s ≡ true → Matches (prefix_of false (bytes_of p)) (rest_of false (bytes_of p)) (bytes_of s)
-like_begins p s h =
-    let m = matches p false s h in (
-      bytes_of m.0,
-      rw (prefix_bytes false p) (ap bytes_of m.1 ∙ bytes_append (prefix_of false p) m.0),
-      λ e. bytes_none _ (m.2 (no_bytes _ (sym (rest_bytes false p) ∙ e))),
-    )
-
 -- ---- UTF-8 patterns and rows
 
-text_prefix : (e : Bool) (p : List ℕ) → Text p → Text (prefix_of e p)
+pub text_prefix : (e : Bool) (p : List ℕ) → Text p → Text (prefix_of e p)
 unfolding prefix_of
 text_prefix true [] t = (inl (omega arith), tt)
 text_prefix false [] t = tt
@@ -160,17 +152,3 @@ text_prefix e (c ∷ p) t = go (ends_at e c) (opens_at e c) (λ e. text_prefix e
     go true y h = tt
     go false true h = h true
     go false false h = (t.0, h false)
-
--- the prefix of UTF-8 is UTF-8
-pub prefix_utf8 : (p : List ℕ) → Utf8 p → Utf8 (prefix_of false p)
-unfolding Utf8
-prefix_utf8 p u = (prefix_of false u.0, text_prefix false u.0 u.1, sym (prefix_bytes false u.0) ∙ ap (prefix_of false) u.2)
-
-module _ (p s : List ℕ) (up : Utf8 p) (us : Utf8 s) (m : like_text p s ≡ true) where
-  pub text_begins : Matches (prefix_of false p) (rest_of false p) s
-  unfolding like_text
-  text_begins = rw ((bytes_chars p up).1, (bytes_chars s us).1) at (like_begins (chars_of p) (chars_of s) m)
-
-  -- no wildcard: the row is the prefix
-  pub text_whole : rest_of false p ≡ [] → s ≡ prefix_of false p
-  text_whole e = let b = text_begins in b.1 ∙ rw (b.2 e, append-nil)

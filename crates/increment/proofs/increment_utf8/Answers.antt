@@ -2,7 +2,8 @@
 use mathlib.Core.Path.{sym, ◌∙◌}
 use native.Mathlib.Omega.{arith}
 use lib.Seq.{length-take-le}
-use Rattle.text.specs.Upper.{rule, rule_raises}
+use Rattle.text.specs.Upper.{rule}
+use Rattle.text.proofs.Upper.{rule_raises}
 use Rattle.increment.proofs.Whole.{fits, raised_bytes, unraised_bytes}
 use Rattle.increment.proofs.increment_utf8.Goals as goal
 
