@@ -1,5 +1,4 @@
 -- Each field of the word, the cell and the literal.
-use borrow.Author.Rules.{rules}
 use Rattle.evaluating.proofs.against_at.Goals as goal
 
 pub against_words-requires : goal.against_words-requires

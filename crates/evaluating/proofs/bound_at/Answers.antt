@@ -1,5 +1,4 @@
 -- The literal of the cell's word.
-use borrow.Author.Rules.{rules}
 use Rattle.evaluating.proofs.bound_at.Goals as goal
 
 pub returns : goal.returns

@@ -1,5 +1,4 @@
 -- The count of the cell's word.
-use borrow.Author.Rules.{rules}
 use Rattle.evaluating.proofs.count_in.Goals as goal
 
 pub returns : goal.returns

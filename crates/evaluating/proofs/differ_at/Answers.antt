@@ -1,5 +1,4 @@
 -- The counts at both places.
-use borrow.Author.Rules.{rules}
 use mathlib.Core.Path.{◌∙◌}
 use Rattle.evaluating.proofs.differ_at.Goals as goal
 

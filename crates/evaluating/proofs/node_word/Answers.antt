@@ -1,5 +1,4 @@
 -- A word of the list.
-use borrow.Author.Rules.{rules}
 use mathlib.Core.Path.{sym, ◌∙◌}
 use Rattle.words.specs.WordLaws.{words_at}
 use Rattle.evaluating.proofs.node_word.Goals as goal

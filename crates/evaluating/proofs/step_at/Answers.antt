@@ -1,5 +1,4 @@
 -- The kind picks the law of its case.
-use borrow.Author.Rules.{rules}
 use mathlib.Core.Path.{sym, ◌∙◌}
 use Prim.Native.Nat.{◌+◌, ◌≤◌}
 use lib.ListN.{get_or}
