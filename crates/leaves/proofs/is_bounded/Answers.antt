@@ -1,5 +1,4 @@
 -- An open LIKE has an upper bound, and no other. Assumes nothing.
-use borrow.Author.Rules.{rules}
 use mathlib.Core.Path.{sym, ◌∙◌}
 use Rattle.literals.specs.Literals.{value_of}
 use Rattle.table.specs.Comparisons.{pattern_upper}

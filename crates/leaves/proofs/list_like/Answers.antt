@@ -1,5 +1,4 @@
 -- The list is that of the two tests. Assumes nothing.
-use borrow.Author.Rules.{rules}
 use mathlib.Core.Path.{sym, ◌∙◌}
 use Rattle.listing.specs.ListingLaws.{grown_none}
 use Rattle.leaves.proofs.Laws.{like_bounded, like_unbounded}

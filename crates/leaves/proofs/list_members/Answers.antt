@@ -1,13 +1,9 @@
 -- Growing by the members that are left is growing by all. Assumes nothing.
 use borrow.Author.Rules.{rules}
-use mathlib.Core.Path.{◌≡◌, refl}
-use Prim.Native.Nat.{◌-◌, ◌≤◌}
+use mathlib.Core.Path.{refl}
 use native.Mathlib.Omega.{arith}
-use lib.ListN.{length}
 use Rattle.words.specs.Word.{words_of}
-use Rattle.predicate.specs.Predicates.{values_at}
-use Rattle.table.specs.Rewriting.{members_lists}
-use Rattle.leaves.proofs.Laws.{rest_lists, rest_next, rest_none, rest_all, Going, going_start, going_room, going_next, going_end}
+use Rattle.leaves.proofs.Laws.{rest_next, rest_none, rest_all, going_start, going_room, going_next, going_end}
 use Rattle.leaves.proofs.list_members.Goals as goal
 
 pub loop-i-init : goal.loop-i-init

@@ -1,5 +1,4 @@
 -- What turning answers lists the comparison's statistics. Each answer is one law. Assumes nothing.
-use borrow.Author.Rules.{rules}
 use Rattle.listing.specs.ListingLaws.{grown_none}
 use Rattle.leaves.proofs.Laws.{against_lists, unhandled_lists}
 use Rattle.leaves.proofs.list_turned.Goals as goal
