@@ -1,12 +1,10 @@
 -- Those counted and those that are left are all. Assumes nothing.
-use borrow.Author.Rules.{rules}
 use mathlib.Core.Path.{◌≡◌}
 use Prim.Native.Nat.{◌+◌, ◌-◌, ◌≤◌}
-use native.Mathlib.Omega.{arith}
 use lib.ListN.{length}
 use Rattle.words.specs.Word.{words_of}
 use Rattle.members.specs.Members.{open_at}
-use Rattle.members.proofs.Laws.{rest_open, rest_all, count_next, count_end}
+use Rattle.members.proofs.Laws.{rest_open}
 use Rattle.members.proofs.count_open.Given as goal
 
 abbrev pub invariant-loop-i : goal.invariant-loop-i

@@ -1,12 +1,9 @@
 -- The words put so far, and one more. Assumes nothing.
 use borrow.Author.Rules.{rules}
-use mathlib.Core.Path.{◌≡◌, refl}
-use Prim.Native.Nat.{◌-◌, ◌≤◌}
+use mathlib.Core.Path.{refl}
 use native.Mathlib.Omega.{arith}
 use native.Mathlib.Nat.{le_antisymm}
-use lib.ListN.{length, replicate}
 use Rattle.table.specs.Nests.{join_word}
-use Rattle.writing.specs.Writing.{Head}
 use Rattle.members.proofs.Laws.{joins_none, joins_more, joins_room}
 use Rattle.members.proofs.put_joins.Goals as goal
 

@@ -1,5 +1,4 @@
 -- The form of what turning answers, or nothing. Assumes nothing.
-use borrow.Author.Rules.{rules}
 use Rattle.members.proofs.Laws.{against_opens, unhandled_opens, room_one, ran_one, ran_none}
 use Rattle.members.proofs.write_member.Goals as goal
 

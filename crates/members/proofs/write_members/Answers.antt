@@ -1,14 +1,11 @@
 -- Writing the members that are left is writing all. Assumes nothing.
 use borrow.Author.Rules.{rules}
-use mathlib.Core.Path.{◌≡◌, refl}
-use Prim.Native.Nat.{◌+◌, ◌-◌, ◌≤◌}
+use mathlib.Core.Path.{refl}
+use Prim.Native.Nat.{◌+◌}
 use native.Mathlib.Omega.{arith}
-use lib.ListN.{length}
 use Rattle.words.specs.Word.{words_of}
-use Rattle.listing.specs.Listing.{list_of}
 use Rattle.writing.specs.WritingLaws.{literal_fits}
-use Rattle.members.specs.Members.{open_at}
-use Rattle.members.proofs.Laws.{rest_open, rest_next, rest_none, rest_all, Going, going_start, going_room, going_next, going_end}
+use Rattle.members.proofs.Laws.{rest_next, rest_none, rest_all, going_start, going_room, going_next, going_end}
 use Rattle.members.proofs.write_members.Goals as goal
 
 pub loop-i-init : goal.loop-i-init

@@ -1,14 +1,11 @@
 -- Writing the members that are left is writing all. Assumes nothing.
-use borrow.Author.Rules.{rules}
-use mathlib.Core.Path.{◌≡◌, refl}
+use mathlib.Core.Path.{◌≡◌}
 use Prim.Native.Nat.{◌+◌, ◌-◌, ◌≤◌}
-use native.Mathlib.Omega.{arith}
 use lib.ListN.{length}
 use Rattle.words.specs.Word.{words_of}
 use Rattle.listing.specs.Listing.{list_of}
-use Rattle.writing.specs.WritingLaws.{literal_fits}
 use Rattle.members.specs.Members.{open_at}
-use Rattle.members.proofs.Laws.{rest_open, rest_next, rest_none, rest_all, Going, going_start, going_room, going_next, going_end}
+use Rattle.members.proofs.Laws.{rest_open, Going}
 use Rattle.members.proofs.write_members.Given as goal
 
 abbrev pub invariant-loop-i : goal.invariant-loop-i
