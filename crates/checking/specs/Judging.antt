@@ -4,7 +4,7 @@ use Prim.Native.Nat.{ℕ, zero, suc, ◌-◌}
 use Rattle.std.proofs.Common.{arith}
 use Rattle.predicate.specs.Predicates.{node_at}
 use Rattle.predicate.specs.Checking.{word_here, after_node, check_behind, node_fault, check_from}
-use Rattle.predicate.specs.CheckingLaws.{check_fault, check_node}
+use Rattle.predicate.proofs.CheckingLaws.{check_fault, check_node}
 use Rattle.predicate.specs.declared.Node.{Node}
 use Rattle.predicate.specs.declared.Progress.{Progress}
 use Rattle.predicate.specs.declared.Checked.TheVariants.{Refused}

@@ -17,7 +17,8 @@ use Rattle.predicate.specs.declared.Progress.{Progress}
 use Rattle.predicate.specs.declared.Checked.TheVariants.{Passed}
 use Rattle.predicate.specs.Predicates.{node_at}
 use Rattle.predicate.specs.Checking.{schema_fine, type_in, missing, formed, limited, columned, literal_limited, patterned, after_literal, passes, check_literal, node_fault, predicate_fault}
-use Rattle.predicate.specs.CheckingLaws.{Fault, predicate_fault_lem}
+use Rattle.predicate.specs.CheckingLaws.{Fault}
+use Rattle.predicate.proofs.CheckingLaws.{predicate_fault_lem}
 use Rattle.predicate.specs.Calls.{Rooms, roomy, rewrite_fault}
 use Rattle.statistics.specs.declared.Statistic.{Statistic}
 use Rattle.statistics.specs.Statistics.{statistic_words}

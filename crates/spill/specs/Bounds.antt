@@ -6,7 +6,8 @@ use Rattle.words.specs.Tests.{and_both}
 use Rattle.words.specs.Word.{words_of, bytes_of}
 use Rattle.words.specs.WordLaws.{length_bytes}
 use Rattle.predicate.specs.Predicates.{Predicate}
-use Rattle.predicate.specs.Accepted.{Whole, whole}
+use Rattle.predicate.specs.Accepted.{Whole}
+use Rattle.predicate.proofs.Accepted.{whole}
 use Rattle.statistics.specs.declared.Statistic.{Statistic}
 use Rattle.statistics.specs.Statistics.{statistic_words, statistics_of}
 use Rattle.table.specs.Tables.{Table}

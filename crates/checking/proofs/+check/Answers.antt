@@ -2,7 +2,8 @@
 use Rattle.std.proofs.Common.{◌∙◌, ◌≡◌, ◌<◌, ◌/◌, ℕ, List, length, rules, sym}
 use Rattle.words.specs.Word.{words_of}
 use Rattle.words.specs.WordLaws.{length_words}
-use Rattle.predicate.specs.CheckingLaws.{NodeSays, node_says, then_refused, then_passed}
+use Rattle.predicate.specs.CheckingLaws.{then_refused, then_passed}
+use Rattle.predicate.proofs.CheckingLaws.{NodeSays, node_says}
 use Rattle.predicate.specs.declared.Node.{Node}
 use Rattle.predicate.specs.declared.Progress.{Progress}
 use Rattle.checking.specs.declared.Judged.TheVariants.{Fine}

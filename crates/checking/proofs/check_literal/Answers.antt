@@ -3,7 +3,7 @@ use Rattle.std.proofs.Common.{◌∙◌, ◌≡◌, sym}
 use Rattle.words.specs.Word.{words_of}
 use Rattle.words.specs.WordLaws.{length_words}
 use Rattle.predicate.specs.Checking.{type_in, literal_fault, word_here}
-use Rattle.predicate.specs.CheckingLaws.{literal_missing, literal_fault_lem, literal_fine}
+use Rattle.predicate.proofs.CheckingLaws.{literal_missing, literal_fault_lem, literal_fine}
 use Rattle.checking.proofs.check_literal.Goals as goal
 
 pub returns-then-words-at : goal.returns-then-words-at

@@ -1,7 +1,8 @@
 -- What is left of the literals decides.
 use mathlib.Core.Path.{refl, sym, ◌∙◌}
 use native.Mathlib.Omega.{arith}
-use Rattle.predicate.specs.CheckingLaws.{literals_none, literals_more, then_refused, then_passed}
+use Rattle.predicate.specs.CheckingLaws.{then_refused, then_passed}
+use Rattle.predicate.proofs.CheckingLaws.{literals_none, literals_more}
 use Rattle.checking.proofs.check_literals.Goals as goal
 
 pub loop-n-init : goal.loop-n-init

@@ -1,7 +1,7 @@
 -- A refusal, no word left over, or some.
 use mathlib.Core.Path.{sym, ◌∙◌}
 use Rattle.words.specs.WordLaws.{length_words}
-use Rattle.predicate.specs.CheckingLaws.{fault_refused, fault_passed, fault_left}
+use Rattle.predicate.proofs.CheckingLaws.{fault_refused, fault_passed, fault_left}
 use Rattle.checking.proofs.check_predicate.Goals as goal
 
 pub returns-in-Refused : goal.returns-in-Refused

@@ -4,7 +4,7 @@ use Rattle.words.specs.Word.{words_of}
 use Rattle.words.specs.WordLaws.{length_words}
 use Rattle.limits.specs.Limits.{malformed}
 use Rattle.predicate.specs.Checking.{node_fault}
-use Rattle.predicate.specs.CheckingLaws.{node_missing, node_there}
+use Rattle.predicate.proofs.CheckingLaws.{node_missing, node_there}
 use Rattle.checking.specs.Judging.{judge_fault, judge_fine}
 use Rattle.checking.proofs.judge.Goals as goal
 
