@@ -2,7 +2,7 @@
 use borrow.Author.Rules.{rules}
 use Rattle.limits.specs.Limits.{max_depth}
 use Rattle.words.specs.Word.{words_of}
-use Rattle.predicate.specs.Predicates.{Predicate, predicate_at}
+use Rattle.predicate.specs.Predicates.{predicate_at}
 use Rattle.table.specs.Rewriting.{lists}
 use Rattle.listing.specs.ListingLaws.{room_all}
 use Rattle.asking.proofs.Laws.{all_columns, all_listed}
