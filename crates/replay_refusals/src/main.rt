@@ -8,7 +8,10 @@
 ghost use Rattle.std.specs.Prelude.{◌+◌, ◌≤◌, ◌<◌, length};
 ghost use Rattle.replay_refusals.specs.Reading.{Leads};
 
-use libc::STDOUT_FILENO;
+use std::fs::File;
+use std::io;
+use std::io::Read;
+use std::rt::Files;
 
 // A decimal field.
 #[derive(Clone, Copy)]
@@ -337,43 +340,38 @@ fn finish(line: &[u8], len: usize, counts: &mut [u64; 3]) {
 }
 
 // Replays a file line by line; no file has as many parts as turns are counted.
-fn replay_file(fd: i32, counts: &mut [u64; 3]) {
+fn replay_file(file: &mut (impl Read + Drop), counts: &mut [u64; 3]) -> io::Result<()> {
     let mut line = [0u8; 4096];
     let mut len = 0;
     let mut turns = u64::MAX;
     while 0 < turns {
-        let mut part = io::buffer();
-        let n = io::read_full(fd, &mut part);
+        let mut part = [0u8; 4096];
+        let n = file.read(&mut part)?;
         if n == 0 {
             finish(&line, len, counts);
-            return;
+            return Ok(());
         }
         len = take_bytes(&part[..n], &mut line, len, counts);
         turns -= 1;
     }
+    Ok(())
 }
 
 // Writes a count and what it counts.
-fn print_count(n: u64, what: &[u8]) {
-    io::print_decimal(STDOUT_FILENO, n);
-    io::write_all(STDOUT_FILENO, what);
+fn print_count(rt: &impl Print, n: u64, what: &str) -> io::Result<()> {
+    print!(rt; "{n}{what}")
 }
 
 // Replays the file of a name.
-fn replay_named(name: &[u8], counts: &mut [u64; 3]) {
-    let fd = os::open_read(name);
-    if fd < 0 {
-        os::fail(name);
-        return;
-    }
-    replay_file(fd, counts);
-    libc::close(fd);
+fn replay_named(rt: &impl Files, name: &str, counts: &mut [u64; 3]) -> io::Result<()> {
+    let mut file = File::open(rt, name)?;
+    replay_file(&mut file, counts)
 }
 
-fn main() {
+fn main(rt: HostRuntime) -> io::Result<()> {
     let mut counts = [0u64; 3];
-    replay_named(b"refusals.txt", &mut counts);
-    print_count(counts[0], b" replayed, ");
-    print_count(counts[1], b" differ, ");
-    print_count(counts[2], b" unread\n");
+    replay_named(&rt, "refusals.txt", &mut counts)?;
+    print_count(&rt, counts[0], " replayed, ")?;
+    print_count(&rt, counts[1], " differ, ")?;
+    print_count(&rt, counts[2], " unread\n")
 }
