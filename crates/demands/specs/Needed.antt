@@ -14,7 +14,7 @@ use Rattle.text.specs.Pattern.{prefix_of, rest_of}
 use Rattle.orders.specs.Order.{order_by, compares, compares_test}
 use Rattle.orders.specs.Instances.{numbers}
 use Rattle.orders.specs.Values.{is_null, compared}
-use Rattle.orders.specs.ValueLaws.{known_type}
+use Rattle.orders.proofs.ValueLaws.{known_type}
 use Rattle.predicate.specs.Nodes.{node_of}
 use Rattle.predicate.specs.Predicates.{values_at, predicate_at}
 use Rattle.predicate.specs.Checking.{types_fine, formed, check_literal, check_literals, node_fault, check_from, predicate_fault}

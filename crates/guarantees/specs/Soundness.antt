@@ -13,7 +13,8 @@ use Rattle.kleene.specs.declared.Joining.TheVariants.{And, Or}
 use Rattle.kleene.specs.TruthLaws.{false_true, unknown_true, and_true, or_true}
 use Rattle.literals.specs.Literals.{Value}
 use Rattle.orders.specs.Values.{order_of, by_order, compared, compared_from, is_null, is_same, alike}
-use Rattle.orders.specs.ValueLaws.{known_type, alike_order, order_of_turned}
+use Rattle.orders.specs.ValueLaws.{alike_order, order_of_turned}
+use Rattle.orders.proofs.ValueLaws.{known_type}
 use Rattle.predicate.specs.declared.Column.{Column}
 use Rattle.predicate.specs.Predicates.{Predicate, constant, join, not as negation, column, is_null as is_null_node, is_not_null, comparison, list, like}
 use Rattle.predicate.specs.Measures.{width}

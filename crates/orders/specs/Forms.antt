@@ -29,20 +29,20 @@ module _ (o : TotalOrder) where
   form Distinct lo hi k = not_equal_form lo hi k
   form NotDistinct lo hi k = equal_form lo hi k
 
-  compared : (op : Operator) (a b : o.Value) → test o op a b ≡ true → compares o op a b ≡ true
+  pub compared : (op : Operator) (a b : o.Value) → test o op a b ≡ true → compares o op a b ≡ true
   compared op a b e = compares_test o op a b ∙ e
 
-  tested : (op : Operator) (a b : o.Value) → compares o op a b ≡ true → test o op a b ≡ true
+  pub tested : (op : Operator) (a b : o.Value) → compares o op a b ≡ true → test o op a b ≡ true
   tested op a b e = sym (compares_test o op a b) ∙ e
 
-  below_trans : (a b c : o.Value) → ltb o a b ≡ true → o.leb b c ≡ true → ltb o a c ≡ true
+  pub below_trans : (a b c : o.Value) → ltb o a b ≡ true → o.leb b c ≡ true → ltb o a c ≡ true
   below_trans a b c e f = go (o.leb c a) refl
     where
       go : (x : Bool) → o.leb c a ≡ x → not x ≡ true
       go true g = absurd (true≢false (sym (o.le_trans b c a f g) ∙ not-true (o.leb b a) e))
       go false g = refl
 
-  trans_below : (a b c : o.Value) → o.leb a b ≡ true → ltb o b c ≡ true → ltb o a c ≡ true
+  pub trans_below : (a b c : o.Value) → o.leb a b ≡ true → ltb o b c ≡ true → ltb o a c ≡ true
   trans_below a b c e f = go (o.leb c a) refl
     where
       go : (x : Bool) → o.leb c a ≡ x → not x ≡ true
@@ -52,13 +52,13 @@ module _ (o : TotalOrder) where
   -- ---- a value between the bounds that satisfies the comparison makes the form true
 
   module _ (lo hi k v : o.Value) (low : o.leb lo v ≡ true) (high : o.leb v hi ≡ true) where
-    equal_true : eqb o v k ≡ true → equal_form lo hi k ≡ true
+    pub equal_true : eqb o v k ≡ true → equal_form lo hi k ≡ true
     equal_true h =
         let p = (and-eq-true_iff (o.leb v k) (o.leb k v)).0 h in
         both _ _ (compared AtMost lo k (o.le_trans lo v k low p.0)) (compared AtMost k hi (o.le_trans k v hi p.1 high))
 
     -- were both bounds k, so would be v
-    not_equal_true : not (eqb o v k) ≡ true → not_equal_form lo hi k ≡ true
+    pub not_equal_true : not (eqb o v k) ≡ true → not_equal_form lo hi k ≡ true
     not_equal_true h = rw (compares_test o NotEqual lo k, compares_test o NotEqual k hi) (go (eqb o lo k) (eqb o k hi) refl refl)
       where
         go : (x y : Bool) → eqb o lo k ≡ x → eqb o k hi ≡ y → (not x || not y) ≡ true
@@ -69,20 +69,6 @@ module _ (o : TotalOrder) where
         go true false e f = refl
         go false y e f = refl
 
-    pub form_true : (op : Operator) → compares o op v k ≡ true → form op lo hi k ≡ true
-    form_true Equal h = equal_true (tested Equal v k h)
-    form_true NotEqual h = not_equal_true (tested NotEqual v k h)
-    form_true Below h = compared Below lo k (trans_below lo v k low (tested Below v k h))
-    form_true AtMost h = compared AtMost lo k (o.le_trans lo v k low (tested AtMost v k h))
-    form_true Above h = compared Above hi k (below_trans k v hi (tested Above v k h) high)
-    form_true AtLeast h = compared AtLeast hi k (o.le_trans k v hi (tested AtLeast v k h) high)
-    form_true Distinct h = not_equal_true (tested Distinct v k h)
-    form_true NotDistinct h = equal_true (tested NotDistinct v k h)
-
-    -- so where it is false, no value between them does
-    pub form_false : (op : Operator) → form op lo hi k ≡ false → compares o op v k ≡ true → ⊥
-    form_false op e h = true≢false (sym (form_true op h) ∙ e)
-
   -- ---- where the form is true, some value between the bounds satisfies the comparison
 
   pub record Met (op : Operator) (lo hi k : o.Value) : Type 0 where
@@ -92,18 +78,18 @@ module _ (o : TotalOrder) where
     pub meets : compares o op value k ≡ true
 
   module _ (lo hi k : o.Value) (order : o.leb lo hi ≡ true) where
-    at_least : (op : Operator) → compares o op lo k ≡ true → Met op lo hi k
+    pub at_least : (op : Operator) → compares o op lo k ≡ true → Met op lo hi k
     at_least op h = record { value = lo; low = o.le_refl lo; high = order; meets = h }
 
-    at_greatest : (op : Operator) → compares o op hi k ≡ true → Met op lo hi k
+    pub at_greatest : (op : Operator) → compares o op hi k ≡ true → Met op lo hi k
     at_greatest op h = record { value = hi; low = order; high = o.le_refl hi; meets = h }
 
-    equal_met : (op : Operator) → compares o op k k ≡ true → equal_form lo hi k ≡ true → Met op lo hi k
+    pub equal_met : (op : Operator) → compares o op k k ≡ true → equal_form lo hi k ≡ true → Met op lo hi k
     equal_met op e h =
         let p = (and-eq-true_iff (compares o AtMost lo k) (compares o AtMost k hi)).0 h in
         record { value = k; low = tested AtMost lo k p.0; high = tested AtMost k hi p.1; meets = e }
 
-    not_equal_met : (op : Operator) → ((v : o.Value) → compares o NotEqual v k ≡ true → compares o op v k ≡ true)
+    pub not_equal_met : (op : Operator) → ((v : o.Value) → compares o NotEqual v k ≡ true → compares o op v k ≡ true)
         → not_equal_form lo hi k ≡ true → Met op lo hi k
     not_equal_met op f h = go (compares o NotEqual lo k) refl h
       where
@@ -111,15 +97,5 @@ module _ (o : TotalOrder) where
         go true e h = at_least op (f lo e)
         go false e h = at_greatest op (f hi (compares_swap o NotEqual k hi ∙ h))
 
-    same : eqb o k k ≡ true
+    pub same : eqb o k k ≡ true
     same = both _ _ (o.le_refl k) (o.le_refl k)
-
-    pub form_met : (op : Operator) → form op lo hi k ≡ true → Met op lo hi k
-    form_met Equal h = equal_met Equal (compared Equal k k same) h
-    form_met NotEqual h = not_equal_met NotEqual (λ v e. e) h
-    form_met Below h = at_least Below h
-    form_met AtMost h = at_least AtMost h
-    form_met Above h = at_greatest Above h
-    form_met AtLeast h = at_greatest AtLeast h
-    form_met Distinct h = not_equal_met Distinct (λ v e. compared Distinct v k (tested NotEqual v k e)) h
-    form_met NotDistinct h = equal_met NotDistinct (compared NotDistinct k k same) h

@@ -16,14 +16,3 @@ use Rattle.orders.specs.Instances.{texts}
 -- least ≤ upper AND prefix ≤ greatest
 abbrev pub like_form : List ℕ → List ℕ → List ℕ → List ℕ → Bool
 like_form lo hi prefix upper = compares texts AtMost lo upper && compares texts AtMost prefix hi
-
-module _ (p s lo hi u : List ℕ) (up : Utf8 p) (us : Utf8 s) (low : up_to lo s ≡ true) (high : up_to s hi ≡ true) (e : upper_of p ≡ some u) where
-  pub like_form_true : like_text p s ≡ true → like_form lo hi (prefix_of false p) u ≡ true
-  like_form_true m =
-      let b = upper_bounds p u up s us m e in
-      both _ _ (compares_test texts AtMost lo u ∙ up_to_trans lo s u low b.1)
-      (compares_test texts AtMost (prefix_of false p) hi ∙ up_to_trans (prefix_of false p) s hi b.0 high)
-
-  -- so where it is false, no text between them matches
-  pub like_form_false : like_form lo hi (prefix_of false p) u ≡ false → like_text p s ≡ true → ⊥
-  like_form_false f m = true≢false (sym (like_form_true m) ∙ f)

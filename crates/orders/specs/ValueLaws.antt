@@ -118,12 +118,8 @@ one_type (truth a) (truth b) h = (refl, refl)
 
 -- ---- what compares
 
-by_known : (o : Operator) (r : Option Order) → (by_order o r ≡ Unknown → ⊥) → r ≡ none → ⊥
+pub by_known : (o : Operator) (r : Option Order) → (by_order o r ≡ Unknown → ⊥) → r ≡ none → ⊥
 by_known o r h e = h (ap (by_order o) e)
-
--- a comparison that is known is one of values of one type
-pub known_type : (o : Operator) (v w : Value) → (by_order o (order_of v w) ≡ Unknown → ⊥) → (is_null v ≡ false) × (value_type v ≡ value_type w)
-known_type o v w h = one_type v w (by_known o (order_of v w) h)
 
 module _ (k : Kind) where
   -- of one kind an operator says what the order says
@@ -193,28 +189,17 @@ alike_order (int a) w h = refl
 alike_order (text a) w h = refl
 alike_order (truth a) w h = refl
 
-apart : (r : Option Order) → by_order Distinct r ≡ True → truth_of (not (is_same r)) ≡ True
+pub apart : (r : Option Order) → by_order Distinct r ≡ True → truth_of (not (is_same r)) ≡ True
 apart none e = unknown_true e
 apart (some Less) e = refl
 apart (some Same) e = false_true e
 apart (some Greater) e = refl
 
-together : (r : Option Order) → by_order NotDistinct r ≡ True → truth_of (is_same r) ≡ True
+pub together : (r : Option Order) → by_order NotDistinct r ≡ True → truth_of (is_same r) ≡ True
 together none e = unknown_true e
 together (some Less) e = false_true e
 together (some Same) e = refl
 together (some Greater) e = false_true e
 
-unknown_not : (t : Truth) → t ≡ True → t ≡ Unknown → ⊥
+pub unknown_not : (t : Truth) → t ≡ True → t ≡ Unknown → ⊥
 unknown_not t e f = unknown_true (sym f ∙ e)
-
--- what holds by order holds of values, of a distinct-from too
-pub by_compared : (o : Operator) (v w : Value) → by_order o (order_of v w) ≡ True → compared o v w ≡ True
-by_compared Equal v w e = e
-by_compared NotEqual v w e = e
-by_compared Below v w e = e
-by_compared AtMost v w e = e
-by_compared Above v w e = e
-by_compared AtLeast v w e = e
-by_compared Distinct v w e = rw (alike_order v w (known_type Distinct v w (unknown_not _ e)).0) (apart (order_of v w) e)
-by_compared NotDistinct v w e = rw (alike_order v w (known_type NotDistinct v w (unknown_not _ e)).0) (together (order_of v w) e)

@@ -22,11 +22,13 @@ use Rattle.text.specs.Pattern.{prefix_of}
 use Rattle.text.specs.Match.{like_text}
 use Rattle.text.specs.Upper.{upper_of}
 use Rattle.orders.specs.Order.{compares, compares_test}
-use Rattle.orders.specs.Forms.{form, form_false}
-use Rattle.orders.specs.Likes.{like_form_false}
+use Rattle.orders.specs.Forms.{form}
+use Rattle.orders.proofs.Forms.{form_false}
+use Rattle.orders.proofs.Likes.{like_form_false}
 use Rattle.orders.specs.Instances.{numbers}
 use Rattle.orders.specs.Values.{order_of, by_order, compared, is_null, is_same, alike}
-use Rattle.orders.specs.ValueLaws.{Kind, textual, Pair, pair_of, known_type, by_kind, alike_order}
+use Rattle.orders.specs.ValueLaws.{Kind, textual, Pair, pair_of, by_kind, alike_order}
+use Rattle.orders.proofs.ValueLaws.{known_type}
 use Rattle.predicate.specs.declared.Column.{Column}
 use Rattle.predicate.specs.Meaning.{Row, value_in}
 use Rattle.predicate.specs.Rows.{In}

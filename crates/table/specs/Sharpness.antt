@@ -18,10 +18,11 @@ use Rattle.kleene.specs.Truths.{truth_of, kleene_and, kleene_or}
 use Rattle.literals.specs.Signed.{Fits64}
 use Rattle.literals.specs.Literals.{Value, null, int}
 use Rattle.orders.specs.Order.{compares, compares_test}
-use Rattle.orders.specs.Forms.{form, form_met}
+use Rattle.orders.specs.Forms.{form}
+use Rattle.orders.proofs.Forms.{form_met}
 use Rattle.orders.specs.Instances.{numbers}
 use Rattle.orders.specs.Values.{is_null, compared}
-use Rattle.orders.specs.ValueLaws.{by_compared}
+use Rattle.orders.proofs.ValueLaws.{by_compared}
 use Rattle.predicate.specs.declared.Column.{Column}
 use Rattle.predicate.specs.Meaning.{Row, value_in}
 use Rattle.predicate.specs.Rows.{In}

@@ -12,7 +12,8 @@ use Rattle.literals.specs.Literals.{Value, null, int, text, truth, integer_type,
 use Rattle.literals.specs.declared.Negated.{Negated}
 use Rattle.literals.specs.declared.Negated.TheVariants.{To, Unhandled}
 use Rattle.orders.specs.Values.{order_of, by_order, compared, compared_from}
-use Rattle.orders.specs.ValueLaws.{order_of_turned, minus_turned, not_turned, by_compared}
+use Rattle.orders.specs.ValueLaws.{order_of_turned, minus_turned, not_turned}
+use Rattle.orders.proofs.ValueLaws.{by_compared}
 use Rattle.predicate.specs.Meaning.{flip, flips}
 use Rattle.predicate.specs.Rows.{OfType}
 use Rattle.table.specs.Comparisons.{Turned, asks, stays, minus_int, minus, minuses, negated_truth, flip_once, truth_flips, no_flips, flipped, ordered, unturned, turned}
