@@ -1,6 +1,6 @@
 -- One node, then what stands behind it. Assumes nothing.
 use borrow.Author.Rules.{rules}
-use mathlib.Core.Path.{◌≡◌, sym, ◌∙◌}
+use mathlib.Core.Path.{sym, ◌∙◌}
 use Prim.Native.Nat.{◌<◌, ◌/◌}
 use lib.ListN.{length}
 use Rattle.tablechecks.specs.Checks.{check_zero, check_faulty, check_node, then_broken, then_at_lem, fine_inside}

@@ -1,5 +1,4 @@
 -- The first test that fails decides. Assumes nothing.
-use borrow.Author.Rules.{rules}
 use borrow.Author.Tests.{lt-ltb, le-ltb}
 use Rattle.words.specs.WordLaws.{length_words}
 use Rattle.tablechecks.proofs.against_named.Goals as goal

@@ -1,5 +1,4 @@
 -- The column's entry of the schema. Assumes nothing.
-use borrow.Author.Rules.{rules}
 use Rattle.tablechecks.proofs.bound_type.Goals as goal
 
 pub returns : goal.returns

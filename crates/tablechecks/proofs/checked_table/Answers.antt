@@ -1,5 +1,4 @@
 -- The first test that fails decides. Assumes nothing.
-use borrow.Author.Rules.{rules}
 use borrow.Author.Tests.{le-leb, lt-leb}
 use Rattle.pruning.specs.TableChecking.{checked_table}
 use Rattle.tablechecks.proofs.checked_table.Goals as goal

@@ -1,5 +1,4 @@
 -- A place past the list names nothing. Assumes nothing.
-use borrow.Author.Rules.{rules}
 use mathlib.Core.Path.{sym, ◌∙◌}
 use Rattle.pruning.specs.TableChecking.{is_rows}
 use Rattle.tablechecks.specs.Naming.{named_at, named_past}

@@ -1,5 +1,4 @@
 -- Checked from the root, the table ends where its words do. Assumes nothing.
-use borrow.Author.Rules.{rules}
 use Rattle.words.specs.WordLaws.{length_words}
 use Rattle.pruning.specs.TableChecking.{table_fine}
 use Rattle.tablechecks.proofs.table_fine.Goals as goal

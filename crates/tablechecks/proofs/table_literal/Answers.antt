@@ -1,5 +1,4 @@
 -- The two tests of the word are one. Assumes nothing.
-use borrow.Author.Rules.{rules}
 use mathlib.Core.Path.{sym}
 use Rattle.tablechecks.specs.Naming.{literal_fits, literal_unfit}
 use Rattle.tablechecks.proofs.table_literal.Goals as goal

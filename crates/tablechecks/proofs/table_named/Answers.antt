@@ -1,5 +1,4 @@
 -- Each kind has its own test. Assumes nothing.
-use borrow.Author.Rules.{rules}
 use Rattle.tablechecks.proofs.table_named.Goals as goal
 
 pub returns-in-Always : goal.returns-in-Always
