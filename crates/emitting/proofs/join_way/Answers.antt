@@ -1,5 +1,4 @@
 -- What both sides come to says how they fold. Assumes nothing.
-use borrow.Author.Rules.{rules}
 use Rattle.words.specs.Word.{words_of}
 use Rattle.predicate.specs.Predicates.{predicate_at}
 use Rattle.emitting.proofs.Laws.{way_is}

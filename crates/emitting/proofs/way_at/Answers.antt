@@ -1,5 +1,4 @@
 -- A join's way is that of its sides; every other node is a leaf. Assumes nothing.
-use borrow.Author.Rules.{rules}
 use mathlib.Core.Path.{sym, ◌∙◌}
 use Rattle.walking.specs.Places.{near_first, near_second}
 use Rattle.predicate.specs.Predicates.{read_node}

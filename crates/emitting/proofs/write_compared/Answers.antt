@@ -1,5 +1,4 @@
 -- The form of the turned comparison. Assumes nothing.
-use borrow.Author.Rules.{rules}
 use Rattle.emitting.proofs.write_compared.Goals as goal
 
 pub write_turned-requires : goal.write_turned-requires

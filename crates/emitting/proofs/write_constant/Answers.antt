@@ -1,5 +1,4 @@
 -- One word, by the constant. Assumes nothing.
-use borrow.Author.Rules.{rules}
 use Rattle.emitting.proofs.write_constant.Goals as goal
 
 pub returns-in-False : goal.returns-in-False
