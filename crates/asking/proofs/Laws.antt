@@ -13,7 +13,7 @@ use Rattle.statistics.specs.declared.Statistic.{Statistic}
 use Rattle.statistics.specs.Statistics.{statistic_words, added_all}
 use Rattle.statistics.specs.ListLaws.{Columns, columns_wider}
 use Rattle.table.specs.Rewriting.{lists}
-use Rattle.table.specs.Naming.{listed_columns}
+use Rattle.table.proofs.Naming.{listed_columns}
 use Rattle.listing.specs.Listing.{Grown}
 use Rattle.listing.specs.ListingLaws.{grown_front, room_all}
 

@@ -38,7 +38,7 @@ use Rattle.predicate.specs.declared.Column.{Column}
 use Rattle.predicate.specs.Meaning.{Row, value_in, meaning}
 use Rattle.predicate.specs.Rows.{In, OfType}
 use Rattle.table.specs.Fitting.{blanks_in, Counts}
-use Rattle.table.specs.FormsSound.{blanks_le, order_null}
+use Rattle.table.proofs.FormsSound.{blanks_le, order_null}
 use Rattle.statistics.specs.declared.Statistic.TheVariants.{Least, Greatest, Blanks, Rows}
 use Rattle.spill.specs.Rewrite.{rewriting}
 use Rattle.spill.specs.Prune.{Call, flags, prune_fault, flag_in, flags_from, pruning}

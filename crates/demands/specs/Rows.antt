@@ -16,7 +16,7 @@ use Rattle.predicate.specs.Rows.{In, RowOf}
 use Rattle.table.specs.Rewriting.{rewritten, statistics}
 use Rattle.table.specs.Worth.{worth}
 use Rattle.table.specs.Fitting.{FitCells}
-use Rattle.table.specs.Soundness.{rewriting_sound}
+use Rattle.table.proofs.Soundness.{rewriting_sound}
 use Rattle.guarantees.specs.Guarantees.{Guarantee, guarantees, guarantee_words, answer_drops}
 use Rattle.guarantees.specs.GuaranteeLaws.{AllSmall, guarantee_not_in, guarantees_below}
 use Rattle.guarantees.specs.Fitting.{FitAnswer}

@@ -26,7 +26,7 @@ use Rattle.statistics.specs.Statistics.{same_statistic, column_in, place_of, add
 use Rattle.statistics.specs.ListLaws.{Listed, same_is, listed_here, listed_further, added_all_listed}
 use Rattle.table.specs.Comparisons.{asks, turned, minuses, comparison_form, comparison_lists, turned_form, turned_lists}
 use Rattle.table.specs.Rewriting.{rewritten, lists, statistics}
-use Rattle.table.specs.Naming.{Each}
+use Rattle.table.proofs.Naming.{Each}
 use Rattle.table.specs.Worth.{Cells, worth}
 use Rattle.words.specs.Word.{words_of}
 use Rattle.words.specs.Tests.{and_both}
@@ -38,7 +38,7 @@ use Rattle.spill.specs.Prune.{Call, flags, pruning, prune_fault, flag_in, list_i
 use Rattle.spill.specs.Bounds.{prune_taken}
 use Rattle.demands.specs.Calls.{Asked, fault_of, outcome_of, asked_for, Blocks, call_of, cells_in}
 use Rattle.demands.specs.Rows.{Fit, FitAnswers, flags_say, accepted_writes, written, list_back, table_back}
-use Rattle.table.specs.Sharpness.{Summary, Match, Held, sharp, sharp_distinct, sharp_not_distinct}
+use Rattle.table.proofs.Sharpness.{Summary, Match, Held, sharp, sharp_distinct, sharp_not_distinct}
 
 -- ---- one integer comparison, column first, no flips
 

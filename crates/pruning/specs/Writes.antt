@@ -30,7 +30,7 @@ use Rattle.table.specs.Tables.{Table, always, both, against, positive, differ, h
 use Rattle.table.specs.Encoding.{table_layout, table_word, always_kind, joining_kind, against_kind, positive_kind, differ_kind, holds_kind, negation_kind, pool_of, table_words}
 use Rattle.table.specs.EncodingLaws.{Fits, always_fits, against_fits, other_fits, place_below, table_below}
 use Rattle.table.specs.Measures.{table_height, table_width, width_is, Names}
-use Rattle.table.specs.Proper.{Suits, Proper, suits_plain, proper_plain}
+use Rattle.table.proofs.Proper.{Suits, Proper, suits_plain, proper_plain}
 use Rattle.guarantees.specs.Guarantees.{Guarantee, guarantee_words}
 use Rattle.guarantees.specs.GuaranteeLaws.{AllSmall, guarantee_column, guarantee_zero, length_guarantees, guarantees_below}
 use Rattle.guarantees.specs.Bounds.{Placed}

@@ -14,9 +14,9 @@ use Rattle.table.specs.Tables.{Table}
 use Rattle.table.specs.Rewriting.{rewritten, statistics}
 use Rattle.table.specs.Encoding.{pool_of, table_words}
 use Rattle.table.specs.Measures.{width_is}
-use Rattle.table.specs.Naming.{rewritten_listed, statistics_distinct, statistics_columns, statistics_most}
-use Rattle.table.specs.Bounds.{words_most, pool_most, height_most}
-use Rattle.table.specs.Proper.{rewritten_proper}
+use Rattle.table.proofs.Naming.{rewritten_listed, statistics_distinct, statistics_columns, statistics_most}
+use Rattle.table.proofs.Bounds.{words_most, pool_most, height_most}
+use Rattle.table.proofs.Proper.{rewritten_proper}
 use Rattle.guarantees.specs.Guarantees.{guarantees, guarantee_words}
 use Rattle.guarantees.specs.Bounds.{guarantees_most, guarantees_columns, guarantees_small}
 use Rattle.pruning.specs.TableReading.{table_at}

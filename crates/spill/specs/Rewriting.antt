@@ -16,8 +16,8 @@ use Rattle.table.specs.Tables.{Table}
 use Rattle.table.specs.Rewriting.{rewritten, statistics}
 use Rattle.table.specs.Encoding.{pool_of, table_words}
 use Rattle.table.specs.Measures.{table_width, width_is}
-use Rattle.table.specs.Bounds.{words_most, pool_most}
-use Rattle.table.specs.Naming.{statistics_most}
+use Rattle.table.proofs.Bounds.{words_most, pool_most}
+use Rattle.table.proofs.Naming.{statistics_most}
 use Rattle.guarantees.specs.Guarantees.{guarantees, guarantee_words}
 use Rattle.guarantees.specs.Bounds.{guarantees_most}
 use Rattle.guarantees.specs.GuaranteeLaws.{length_guarantees}

@@ -14,7 +14,7 @@ use Rattle.table.specs.declared.Known.TheVariants.{Open}
 use Rattle.table.specs.Tables.{Table, always, both, against, positive, differ, holds, negation, known, joined}
 use Rattle.table.specs.Comparisons.{Turned, asks, stays, turned, comparison_form, turned_form, bounded_form, pattern_prefix, pattern_upper}
 use Rattle.table.specs.Rewriting.{list_operator, list_joining, comparison_table, rewritten}
-use Rattle.table.specs.Induction.{distinct_by, not_distinct_by, Kept, rewritten_by}
+use Rattle.table.specs.Induction.{distinct_by, not_distinct_by, Kept}
 
 -- no constant stands anywhere in it
 abbrev pub Solid : Table → Type 0
@@ -91,7 +91,7 @@ module _ (schema : List ℕ) where
   comparison_root : (o : Operator) (c : Column) (n : ℕ) (b : Bool) (v : Value) → RootOnly (comparison_table schema o c n b v)
   comparison_root o c n b v = turned_root c (turned (type_in schema c.0) o n b v)
 
-  roots_kept : Kept schema (λ p t a. RootOnly t)
+  pub roots_kept : Kept schema (λ p t a. RootOnly t)
   roots_kept =
       record {
         still = λ p b. constant_root b;
@@ -106,7 +106,3 @@ module _ (schema : List ℕ) where
             joined_root (list_joining b) t (comparison_table schema (list_operator b) c n false v) h (comparison_root (list_operator b) c n false v);
         of_like = λ c v. bounded_root c (pattern_prefix v) (pattern_upper v);
       }
-
--- the table of a predicate is a constant, or has none in it
-pub rewritten_root : (limit : ℕ) (schema : List ℕ) (p : Predicate) → RootOnly (rewritten limit schema p)
-rewritten_root limit schema p = rewritten_by limit schema (λ p t a. RootOnly t) (roots_kept schema) p

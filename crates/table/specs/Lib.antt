@@ -6,13 +6,6 @@ pub mod Worth
 pub mod Fitting
 pub mod Induction
 pub mod Constants
-pub mod Turning
-pub mod FormsSound
 pub mod Measures
 pub mod EncodingLaws
-pub mod Naming
-pub mod Bounds
-pub mod Proper
-pub mod Soundness
-pub mod Sharpness
 pub mod Nests

@@ -26,7 +26,8 @@ use Rattle.table.specs.Comparisons.{Turned, asks, stays, turned, comparison_form
 use Rattle.table.specs.Rewriting.{column_table, not_column_table, comparison_table, list_operator, list_joining, rewritten}
 use Rattle.table.specs.Encoding.{pool_of}
 use Rattle.table.specs.Measures.{table_height, table_width}
-use Rattle.table.specs.Induction.{joined_by, distinct_by, not_distinct_by, Asked, turned_by, Kept, rewritten_by}
+use Rattle.table.specs.Induction.{joined_by, distinct_by, not_distinct_by, Asked, Kept}
+use Rattle.table.proofs.Induction.{turned_by, rewritten_by}
 
 -- ---- folding makes nothing larger
 

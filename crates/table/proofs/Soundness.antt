@@ -36,8 +36,8 @@ use Rattle.table.specs.Comparisons.{Turned, asks, stays, turned, turned_form, bo
 use Rattle.table.specs.Rewriting.{constant_table, not_table, comparison_table, list_operator, list_joining, members_table, nested_table, rewritten}
 use Rattle.table.specs.Worth.{Cells, worth}
 use Rattle.table.specs.Fitting.{Bounds, FitCells}
-use Rattle.table.specs.Turning.{turned_means}
-use Rattle.table.specs.FormsSound.{blanks_gone, values_gone, comparison_sound, like_sound}
+use Rattle.table.proofs.Turning.{turned_means}
+use Rattle.table.proofs.FormsSound.{blanks_gone, values_gone, comparison_sound, like_sound}
 
 -- ---- folding changes no worth
 

@@ -18,7 +18,8 @@ use Rattle.table.specs.Tables.{Table, joined}
 use Rattle.table.specs.Comparisons.{Turned, asks, stays, turned, comparison_form, comparison_lists, turned_form, turned_lists, bounded_form, bounded_lists, pattern_prefix, pattern_upper}
 use Rattle.table.specs.Rewriting.{comparison_table, comparison_statistics, list_operator, list_joining, rewritten, lists, statistics}
 use Rattle.table.specs.Measures.{Names, names_map}
-use Rattle.table.specs.Induction.{joined_by, distinct_by, not_distinct_by, Kept, rewritten_by}
+use Rattle.table.specs.Induction.{joined_by, distinct_by, not_distinct_by, Kept}
+use Rattle.table.proofs.Induction.{rewritten_by}
 
 -- ---- a property of every statistic of a list
 

@@ -25,7 +25,8 @@ use Rattle.table.specs.Tables.{Table, always, both, against, positive, differ, h
 use Rattle.table.specs.Comparisons.{Turned, asks, stays, turned, comparison_form, turned_form, bounded_form, like_table}
 use Rattle.table.specs.Rewriting.{comparison_table, list_operator, list_joining, rewritten}
 use Rattle.table.specs.Measures.{Literals}
-use Rattle.table.specs.Induction.{joined_by, distinct_by, not_distinct_by, Asked, turned_by, Kept, rewritten_by}
+use Rattle.table.specs.Induction.{joined_by, distinct_by, not_distinct_by, Asked, Kept}
+use Rattle.table.proofs.Induction.{turned_by, rewritten_by}
 
 -- ---- proper tables
 

@@ -1,0 +1,9 @@
+pub mod Bounds
+pub mod Proper
+pub mod Naming
+pub mod Soundness
+pub mod FormsSound
+pub mod Sharpness
+pub mod Turning
+pub mod Induction
+pub mod Constants
