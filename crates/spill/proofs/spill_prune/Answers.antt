@@ -10,7 +10,7 @@ returns-then-fault-ne0 c =
 
 pub prune_flags-requires : goal.prune_flags-requires
 prune_flags-requires c =
-    fits _ (passed _ (sym c.prune_fault-fault.ensures ∙ c.if-fault-ne0.false)) (λ k. (c.shared_slice_known-4-1.given k).fits)
+    fits _ (passed _ (sym c.prune_fault-fault.ensures ∙ c.if-fault-ne0.false)) (λ k. (c.type_inv.statistics k).fits)
 
 pub returns : goal.returns
 returns c =
