@@ -1,5 +1,4 @@
 -- Two growths, one after the other.
-use borrow.Author.Rules.{rules}
 use mathlib.Core.List.{[], ◌∷◌}
 use Rattle.listing.specs.ListingLaws.{room_first, room_next, grown_then}
 use Rattle.listing.proofs.add_two.Goals as goal

@@ -1,5 +1,4 @@
 -- A statistic stands where its key does.
-use borrow.Author.Rules.{rules}
 use mathlib.Core.Path.{◌∙◌}
 use Rattle.listing.specs.Listing.{list_of}
 use Rattle.listing.proofs.Laws.{place_key}

@@ -1,13 +1,10 @@
 -- The place is i more than that in what is left from word i on.
-use borrow.Author.Rules.{rules}
-use mathlib.Core.Path.{◌≡◌, sym, ◌∙◌}
+use mathlib.Core.Path.{◌≡◌}
 use Prim.Native.Nat.{◌+◌, ◌-◌, ◌≤◌}
-use native.Mathlib.Nat.{zero-add}
 use lib.ListN.{drop}
 use Rattle.words.specs.Word.{words_of}
 use Rattle.statistics.specs.Statistics.{statistics_of}
 use Rattle.listing.specs.Listing.{list_of, key_place}
-use Rattle.listing.proofs.Laws.{place_here, place_on, place_end}
 use Rattle.listing.proofs.find_key.Given as goal
 
 abbrev pub invariant-loop-i : goal.invariant-loop-i

@@ -1,5 +1,4 @@
 -- The list is that of the operator's arm.
-use borrow.Author.Rules.{rules}
 use Rattle.listing.proofs.list_comparison.Goals as goal
 
 pub list_bounds-requires : goal.list_bounds-requires

@@ -1,5 +1,4 @@
 -- Two growths, one after the other.
-use borrow.Author.Rules.{rules}
 use mathlib.Core.List.{[], ◌∷◌}
 use Rattle.statistics.specs.declared.Statistic.TheVariants.{Blanks, Rows}
 use Rattle.table.specs.Rewriting.{column_lists}

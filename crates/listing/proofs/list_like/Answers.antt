@@ -1,5 +1,4 @@
 -- The list is that of the test.
-use borrow.Author.Rules.{rules}
 use Rattle.listing.proofs.list_like.Goals as goal
 
 pub list_bounds-requires : goal.list_bounds-requires

@@ -1,5 +1,4 @@
 -- A word of the list, or past its end.
-use borrow.Author.Rules.{rules}
 use mathlib.Core.Path.{sym}
 use Rattle.words.specs.WordLaws.{length_words, words_at}
 use Rattle.statistics.specs.Reading.{read_at, read_past}

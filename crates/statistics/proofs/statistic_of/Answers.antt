@@ -1,5 +1,4 @@
 -- The type picks its place of the list.
-use borrow.Author.Rules.{rules}
 use native.Mathlib.Omega.{arith}
 use mathlib.Core.Path.{◌≡◌}
 use Rattle.statistics.specs.Statistics.{statistic_of, type_field}

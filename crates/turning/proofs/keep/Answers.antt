@@ -1,5 +1,4 @@
 -- Unhandled where the literal came first, else by the flips.
-use borrow.Author.Rules.{rules}
 use Rattle.table.specs.Comparisons.{no_flips, unturned}
 use mathlib.Core.Bool.{true, false}
 use mathlib.Core.Path.{refl}

@@ -1,5 +1,4 @@
 -- Swapped where the literal came first.
-use borrow.Author.Rules.{rules}
 use Rattle.turning.proofs.operator_first.Goals as goal
 
 pub returns-then-first : goal.returns-then-first

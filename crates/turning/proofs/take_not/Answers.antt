@@ -1,5 +1,4 @@
 -- = and ≠ take the literal negated, the others none.
-use borrow.Author.Rules.{rules}
 use mathlib.Core.Path.{refl}
 use Rattle.turning.proofs.Laws.{negates, unhandled}
 use Rattle.turning.proofs.take_not.Goals as goal

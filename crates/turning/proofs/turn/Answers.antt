@@ -1,5 +1,4 @@
 -- By whether the operator has a swap.
-use borrow.Author.Rules.{rules}
 use mathlib.Core.Path.{sym, ◌∙◌}
 use Rattle.table.specs.Comparisons.{ordered, unturned, turned}
 use Rattle.turning.proofs.Laws.{turns_as, turned_swap, turned_other}

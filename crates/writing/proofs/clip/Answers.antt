@@ -1,5 +1,4 @@
 -- Only a text is cut.
-use borrow.Author.Rules.{rules}
 use mathlib.Core.Path.{refl}
 use Rattle.writing.proofs.Laws.{clip_text}
 use Rattle.writing.proofs.clip.Goals as goal

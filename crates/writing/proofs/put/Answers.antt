@@ -1,5 +1,4 @@
 -- One word at the spot.
-use borrow.Author.Rules.{rules}
 use mathlib.Core.Path.{refl, ◌∙◌}
 use native.Mathlib.Omega.{arith}
 use Rattle.words.specs.WordLaws.{bytes_one}

@@ -1,5 +1,4 @@
 -- Each join's kind.
-use borrow.Author.Rules.{rules}
 use Rattle.writing.proofs.put_join.Goals as goal
 
 pub returns-in-And : goal.returns-in-And

@@ -1,5 +1,4 @@
 -- A word, and bytes.
-use borrow.Author.Rules.{rules}
 use mathlib.Core.Path.{◌∙◌}
 use Rattle.literals.specs.LiteralLaws.{literal_word_value}
 use Rattle.writing.proofs.put_literal.Goals as goal

@@ -1,5 +1,4 @@
 -- The word that was made.
-use borrow.Author.Rules.{rules}
 use Rattle.writing.proofs.put_node.Goals as goal
 
 pub returns : goal.returns

@@ -1,5 +1,4 @@
 -- One word.
-use borrow.Author.Rules.{rules}
 use mathlib.Core.Path.{refl}
 use Rattle.table.specs.Encoding.{pool_of, table_words}
 use Rattle.table.specs.Tables.{holds}
