@@ -25,7 +25,8 @@ use Rattle.table.specs.Encoding.{pool_of, table_words}
 use Rattle.table.specs.Measures.{table_width, width_is}
 use Rattle.table.specs.Constants.{solid_open, form_solid}
 use Rattle.table.specs.Rewriting.{list_operator, list_joining, nested_table, list_table}
-use Rattle.table.specs.Nests.{nest, join_word, run_words, run_pool, nest_words, nest_pool, is_open, kept_if, opens, all_open, nest_of, list_fold, member_table, member_tables, nested_folds}
+use Rattle.table.specs.Nests.{nest, join_word, run_words, run_pool, nest_words, nest_pool, is_open, kept_if, opens, all_open, nest_of, list_fold, member_table, member_tables}
+use Rattle.table.proofs.Nests.{nested_folds}
 use Rattle.knowing.specs.Knowns.{list_within}
 use Rattle.turning.specs.Turns.{Turns}
 use Rattle.turning.specs.declared.Turned.{Turned}

@@ -7,3 +7,4 @@ pub mod Sharpness
 pub mod Turning
 pub mod Induction
 pub mod Constants
+pub mod Nests

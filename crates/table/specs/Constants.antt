@@ -30,7 +30,7 @@ Solid (negation t) = Solid t
 abbrev pub RootOnly : Table → Type 0
 RootOnly t = ((b : Bool) × (t ≡ always b)) ⊎ Solid t
 
-constant_root : (b : Bool) → RootOnly (always b)
+pub constant_root : (b : Bool) → RootOnly (always b)
 constant_root b = inl (b, refl)
 
 pub solid_open : (t : Table) → Solid t → known t ≡ Open
@@ -44,26 +44,21 @@ solid_open (negation t) s = refl
 
 -- ---- folding
 
-left_constant : (j : Joining) (b : Bool) (r : Table) → RootOnly r → RootOnly (joined j (always b) r)
+pub left_constant : (j : Joining) (b : Bool) (r : Table) → RootOnly r → RootOnly (joined j (always b) r)
 left_constant And true r h = h
 left_constant And false r h = constant_root false
 left_constant Or true r h = constant_root true
 left_constant Or false r h = h
 
-right_constant : (j : Joining) (l : Table) (b : Bool) → Solid l → RootOnly (joined j l (always b))
+pub right_constant : (j : Joining) (l : Table) (b : Bool) → Solid l → RootOnly (joined j l (always b))
 right_constant And l true s = rw (solid_open l s) (inr s)
 right_constant And l false s = rw (solid_open l s) (constant_root false)
 right_constant Or l true s = rw (solid_open l s) (constant_root true)
 right_constant Or l false s = rw (solid_open l s) (inr s)
 
-both_solid : (j : Joining) (l r : Table) → Solid l → Solid r → RootOnly (joined j l r)
+pub both_solid : (j : Joining) (l r : Table) → Solid l → Solid r → RootOnly (joined j l r)
 both_solid And l r s t = rw (solid_open l s, solid_open r t) (inr (s, t))
 both_solid Or l r s t = rw (solid_open l s, solid_open r t) (inr (s, t))
-
-pub joined_root : (j : Joining) (l r : Table) → RootOnly l → RootOnly r → RootOnly (joined j l r)
-joined_root j l r (inl (b, e)) h = rw e (left_constant j b r h)
-joined_root j l r (inr s) (inl (b, e)) = rw e (right_constant j l b s)
-joined_root j l r (inr s) (inr t) = both_solid j l r s t
 
 -- ---- leaves
 
@@ -77,32 +72,10 @@ form_solid c AtLeast v = (tt, tt)
 form_solid c Distinct v = distinct_by Solid c v tt (tt, (tt, tt))
 form_solid c NotDistinct v = not_distinct_by Solid c v tt (tt, (tt, tt))
 
-turned_root : (c : Column) (t : Turned) → RootOnly (turned_form c t)
+pub turned_root : (c : Column) (t : Turned) → RootOnly (turned_form c t)
 turned_root c (asks o v) = inr (form_solid c o v)
 turned_root c stays = constant_root true
 
-bounded_root : (c : Column) (prefix : List ℕ) (upper : Option (List ℕ)) → RootOnly (bounded_form c prefix upper)
+pub bounded_root : (c : Column) (prefix : List ℕ) (upper : Option (List ℕ)) → RootOnly (bounded_form c prefix upper)
 bounded_root c prefix none = constant_root true
 bounded_root c prefix (some upper) = inr (tt, (tt, tt))
-
--- ---- the theorem
-
-module _ (schema : List ℕ) where
-  comparison_root : (o : Operator) (c : Column) (n : ℕ) (b : Bool) (v : Value) → RootOnly (comparison_table schema o c n b v)
-  comparison_root o c n b v = turned_root c (turned (type_in schema c.0) o n b v)
-
-  pub roots_kept : Kept schema (λ p t a. RootOnly t)
-  roots_kept =
-      record {
-        still = λ p b. constant_root b;
-        joins = λ j l r t u a b. joined_root j t u;
-        of_column = λ c. inr (tt, tt);
-        of_not = λ c. inr (tt, tt);
-        of_null = λ c. inr tt;
-        of_not_null = λ c. inr tt;
-        of_comparison = comparison_root;
-        of_one = λ b c n v. comparison_root (list_operator b) c n false v;
-        of_more = λ b c n u us v t a h.
-            joined_root (list_joining b) t (comparison_table schema (list_operator b) c n false v) h (comparison_root (list_operator b) c n false v);
-        of_like = λ c v. bounded_root c (pattern_prefix v) (pattern_upper v);
-      }

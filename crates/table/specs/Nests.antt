@@ -105,16 +105,16 @@ abbrev pub joined_all : Joining → Table → List Table → Table
 joined_all j t [] = t
 joined_all j t (u ∷ us) = joined_all j (joined j t u) us
 
-AllSolid : List Table → Type 0
+unfoldable pub AllSolid : List Table → Type 0
 AllSolid [] = Unit {0}
 AllSolid (t ∷ ts) = Solid t × AllSolid ts
 
-nest_solid : (j : Joining) (t : Table) (us : List Table) → Solid t → AllSolid us → Solid (nest j t us)
+pub nest_solid : (j : Joining) (t : Table) (us : List Table) → Solid t → AllSolid us → Solid (nest j t us)
 unfolding AllSolid
 nest_solid j t [] s a = s
 nest_solid j t (u ∷ us) s a = nest_solid j (both j t u) us (s, a.0) a.1
 
-solid_snoc : (ts : List Table) (u : Table) → AllSolid ts → Solid u → AllSolid (ts ++ (u ∷ []))
+pub solid_snoc : (ts : List Table) (u : Table) → AllSolid ts → Solid u → AllSolid (ts ++ (u ∷ []))
 unfolding AllSolid
 solid_snoc [] u a s = (s, tt)
 solid_snoc (t ∷ ts) u a s = (a.0, solid_snoc ts u a.1 s)
@@ -137,7 +137,7 @@ kept_append : (b : Bool) (t : Table) (ts : List Table) → kept_if b t [] ++ ts 
 kept_append true t ts = refl
 kept_append false t ts = refl
 
-and_all : (ts us : List Table) → AllSolid ts → Members us → joined_all And (nest_of And ts) us ≡ nest_of And (ts ++ opens us)
+pub and_all : (ts us : List Table) → AllSolid ts → Members us → joined_all And (nest_of And ts) us ≡ nest_of And (ts ++ opens us)
 and_all ts [] a m = ap (nest_of And) (sym (append-nil ts))
 and_all ts (u ∷ us) a m =
     let h = and_more ts u a m.0 in
@@ -146,32 +146,9 @@ and_all ts (u ∷ us) a m =
     ∙ ap (λ l. nest_of And (l ++ opens us)) h.2
     ∙ ap (nest_of And) (append_assoc ts (kept_if (is_open (known u)) u []) (opens us) ∙ ap (λ l. ts ++ l) (kept_append (is_open (known u)) u (opens us)))
 
-or_true : (us : List Table) → joined_all Or (always true) us ≡ always true
+pub or_true : (us : List Table) → joined_all Or (always true) us ≡ always true
 or_true [] = refl
 or_true (u ∷ us) = or_true us
-
-or_all : (t : Table) (ts us : List Table) → Solid t → AllSolid ts → Members us
-    → joined_all Or (nest Or t ts) us ≡ cond (all_open us) (nest Or t (ts ++ us)) (always true)
-or_all t ts [] s a m = ap (nest Or t) (sym (append-nil ts))
-or_all t ts (u ∷ us) s a m = go m.0 (or_all t (ts ++ (u ∷ [])) us s)
-  where
-    open_nest : known (nest Or t ts) ≡ Open
-    open_nest = solid_open (nest Or t ts) (nest_solid Or t ts s a)
-
-    go : Member u → (AllSolid (ts ++ (u ∷ [])) → Members us → joined_all Or (nest Or t (ts ++ (u ∷ []))) us ≡ cond (all_open us) (nest Or t ((ts ++ (u ∷ [])) ++ us)) (always true))
-        → joined_all Or (joined Or (nest Or t ts) u) us ≡ cond (is_open (known u) && all_open us) (nest Or t (ts ++ (u ∷ us))) (always true)
-    go (inl e) more = rw (e, open_nest) (or_true us)
-    go (inr o) more =
-        rw (solid_open u o, open_nest, ← nest_snoc Or t ts u)
-        (more (solid_snoc ts u a o) m.1 ∙ ap (λ l. cond (all_open us) (nest Or t l) (always true)) (append_assoc ts (u ∷ []) us))
-
--- members joined from the left are what the list folds to
-pub list_folds : (j : Joining) (t : Table) (us : List Table) → Member t → Members us → joined_all j t us ≡ list_fold j (t ∷ us)
-unfolding AllSolid
-list_folds And t us (inl e) m = rw e (and_all [] us tt m)
-list_folds And t us (inr s) m = rw (solid_open t s) (and_all (t ∷ []) us (s, tt) m)
-list_folds Or t us (inl e) m = rw e (or_true us)
-list_folds Or t us (inr s) m = rw (solid_open t s) (or_all t [] us s tt m)
 
 -- ---- the members of a predicate's list
 
@@ -194,11 +171,7 @@ module _ (schema : List ℕ) (b : Bool) (c : Column) (n : ℕ) where
   members_are [] = tt
   members_are (v ∷ vs) = (member_is v, members_are vs)
 
-  members_joined : (t : Table) (vs : List Value) → members_table schema b c n t vs ≡ joined_all (list_joining b) t (member_tables vs)
+  pub members_joined : (t : Table) (vs : List Value) → members_table schema b c n t vs ≡ joined_all (list_joining b) t (member_tables vs)
   unfolding members_table
   members_joined t [] = refl
   members_joined t (v ∷ vs) = members_joined (joined (list_joining b) t (member_table v)) vs
-
-  -- a list with a member is rewritten to what its members fold to
-  pub nested_folds : (v : Value) (vs : List Value) → nested_table schema b c n (v ∷ vs) ≡ list_fold (list_joining b) (member_tables (v ∷ vs))
-  nested_folds v vs = members_joined (member_table v) vs ∙ list_folds (list_joining b) (member_table v) (member_tables vs) (member_is v) (members_are vs)
