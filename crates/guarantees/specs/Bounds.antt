@@ -79,16 +79,3 @@ module _ (n m : ℕ) where
   pub placed_small : (gs : List Guarantee) → n ≤ 256 → m ≤ 2 ^ 16 → Placed n m gs → AllSmall gs
   placed_small [] h k x = tt
   placed_small (g ∷ gs) h k x = (record { column = omega (arith, x.0.0); place = omega (arith, x.0.1) }, placed_small gs h k x.1)
-
--- ---- of a predicate that checking accepts
-
-module _ (schema ws : List ℕ) (p : Predicate) (w : Whole schema ws p) where
-  pub guarantees_most : length (guarantees 0 p) ≤ max_guarantees
-  guarantees_most = omega (arith, guarantees_bound 0 p, w.leaves, w.nodes)
-
-  pub guarantees_columns : Placed (length schema) (length ws) (guarantees 0 p)
-  guarantees_columns = guarantees_placed (length schema) (length ws) 0 p w.columns (omega (arith, w.width))
-
-  pub guarantees_small : length schema ≤ max_columns → AllSmall (guarantees 0 p)
-  guarantees_small h =
-      placed_small (length schema) (length ws) (guarantees 0 p) (omega arith) (omega (arith, width_most p, w.width, w.nodes, w.listed)) guarantees_columns

@@ -8,7 +8,7 @@ use Rattle.predicate.specs.Predicates.{Predicate, Read}
 use Rattle.predicate.specs.Measures.{width, depth}
 use Rattle.predicate.specs.Accepted.{width_most, Whole}
 use Rattle.guarantees.specs.Guarantees.{guarantees, guarantee_words}
-use Rattle.guarantees.specs.Bounds.{guarantees_most}
+use Rattle.guarantees.proofs.Bounds.{guarantees_most}
 use Rattle.promising.specs.declared.Written.{Written}
 
 -- a predicate at a place, read with a depth d that sufficed, whose places are 16 bits and whose guarantees have room behind n others

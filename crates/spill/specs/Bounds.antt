@@ -18,7 +18,7 @@ use Rattle.table.proofs.Naming.{rewritten_listed, statistics_distinct, statistic
 use Rattle.table.proofs.Bounds.{words_most, pool_most, height_most}
 use Rattle.table.proofs.Proper.{rewritten_proper}
 use Rattle.guarantees.specs.Guarantees.{guarantees, guarantee_words}
-use Rattle.guarantees.specs.Bounds.{guarantees_most, guarantees_columns, guarantees_small}
+use Rattle.guarantees.proofs.Bounds.{guarantees_most, guarantees_columns, guarantees_small}
 use Rattle.pruning.specs.TableReading.{table_at}
 use Rattle.pruning.specs.TableChecking.{checked_table}
 use Rattle.pruning.specs.Cells.{answers_fine}

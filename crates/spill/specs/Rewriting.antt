@@ -19,7 +19,7 @@ use Rattle.table.specs.Measures.{table_width, width_is}
 use Rattle.table.proofs.Bounds.{words_most, pool_most}
 use Rattle.table.proofs.Naming.{statistics_most}
 use Rattle.guarantees.specs.Guarantees.{guarantees, guarantee_words}
-use Rattle.guarantees.specs.Bounds.{guarantees_most}
+use Rattle.guarantees.proofs.Bounds.{guarantees_most}
 use Rattle.guarantees.specs.GuaranteeLaws.{length_guarantees}
 use Rattle.listing.specs.Listing.{list_of, Few}
 use Rattle.writing.specs.declared.Spot.{Spot}

@@ -1,0 +1,28 @@
+-- How many guarantees a predicate gives, and that each names a column and a node word of the predicate. Assumes nothing.
+use Rattle.std.specs.Prelude.{Bool, true, false, List, [], ◌∷◌, ◌++◌, ℕ, zero, suc, ◌+◌, ◌^◌, ◌≤◌, ◌<◌, length}
+use Rattle.std.proofs.Common.{arith, length-append}
+use Rattle.limits.specs.Limits.{max_columns, max_guarantees}
+use Rattle.operators.specs.declared.Operator.{Operator}
+use Rattle.operators.specs.declared.Operator.TheVariants.{Equal, NotEqual, Below, AtMost, Above, AtLeast, Distinct, NotDistinct}
+use Rattle.kleene.specs.declared.Joining.TheVariants.{And, Or}
+use Rattle.literals.specs.Literals.{Value}
+use Rattle.predicate.specs.declared.Column.{Column}
+use Rattle.predicate.specs.Predicates.{Predicate, constant, join, not, column, is_null, is_not_null, comparison, list, like}
+use Rattle.predicate.specs.Measures.{width, leaves}
+use Rattle.predicate.specs.Accepted.{ColumnsBelow, width_most, Whole}
+use Rattle.guarantees.specs.Guarantees.{Guarantee, non_null, over_set, unflipped, of_comparison, guarantees}
+use Rattle.guarantees.specs.GuaranteeLaws.{AllSmall}
+use Rattle.guarantees.specs.Bounds.{Placed, guarantees_bound, guarantees_placed, placed_small}
+
+-- ---- of a predicate that checking accepts
+
+module _ (schema ws : List ℕ) (p : Predicate) (w : Whole schema ws p) where
+  pub guarantees_most : length (guarantees 0 p) ≤ max_guarantees
+  guarantees_most = omega (arith, guarantees_bound 0 p, w.leaves, w.nodes)
+
+  pub guarantees_columns : Placed (length schema) (length ws) (guarantees 0 p)
+  guarantees_columns = guarantees_placed (length schema) (length ws) 0 p w.columns (omega (arith, w.width))
+
+  pub guarantees_small : length schema ≤ max_columns → AllSmall (guarantees 0 p)
+  guarantees_small h =
+      placed_small (length schema) (length ws) (guarantees 0 p) (omega arith) (omega (arith, width_most p, w.width, w.nodes, w.listed)) guarantees_columns
