@@ -84,6 +84,7 @@ fn unused_zero(used: bool, v: u64) -> bool
 }
 
 // Whether a node word has a known kind and operator, and every unnamed and unused field zero.
+#[tactic(auto, unfolding(predicate::specs::Checking::formed))]
 pub fn formed(w: u64) -> bool
     ensures { result ≡ formed w }
 {
@@ -391,6 +392,7 @@ fn roomy(table: usize, pool: usize, statistics: usize, guarantees: usize) -> boo
 }
 
 // The refusal of a rewriting call, or 0; the four lengths are those of the lent outputs.
+#[tactic(auto, unfolding(predicate::specs::Calls::rewrite_fault))]
 pub fn rewrite_fault(
     schema: &[u8],
     predicate: &[u8],
