@@ -1,6 +1,6 @@
 -- What is_utf8 accepts is UTF-8.
 use Rattle.std.proofs.Common.{arith, sym, ◌∙◌}
-use Rattle.text.specs.Valid.{utf8_iff}
+use Rattle.text.proofs.Valid.{utf8_iff}
 use Rattle.textcases.proofs.run.Goals as goal
 
 pub show_upper-requires : goal.show_upper-requires
