@@ -76,7 +76,7 @@ settled Or False = false
 settled Or Unknown = false
 settled Or True = true
 
-settled_is : (j : Joining) (a b : Truth) → settled j a ≡ true → kleene j a b ≡ a
+pub settled_is : (j : Joining) (a b : Truth) → settled j a ≡ true → kleene j a b ≡ a
 settled_is And False False h = refl
 settled_is And False Unknown h = refl
 settled_is And False True h = refl
@@ -253,14 +253,6 @@ module _ (cells row pool ws : List ℕ) (d at : ℕ) (list : List Statistic) (r 
         → record { value = kleene j x.value y.value; next = y.next } ≡ valued (row_cells cells list row) (table_at list pool ws d at)
     unfolding worth
     both_worth x y p q = rw (here (Join j) both_is, q, p)
-
-    -- the first side alone, where it decides; n is the place behind the second
-    pub both_settled : (x : Valued) (n : ℕ) → x ≡ valued (row_cells cells list row) (table_at list pool ws (d - 1) (at + 1))
-        → settled j x.value ≡ true → n ≡ behind list pool ws (d - 1) x.next
-        → record { value = x.value; next = n } ≡ valued (row_cells cells list row) (table_at list pool ws d at)
-    both_settled x n p s q =
-        let y : Valued = valued (row_cells cells list row) (table_at list pool ws (d - 1) x.next) in
-        rw (q, ← settled_is j x.value y.value s) (both_worth x y p refl)
 
     pub both_next : (x : ℕ) → x ≡ behind list pool ws (d - 1) (at + 1) → Ready list pool ws (d - 1) x
     both_next x p = record { distinct = r.distinct; table = rw p (there (Join j) both_is).1 }

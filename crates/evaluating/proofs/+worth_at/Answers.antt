@@ -4,7 +4,8 @@ use Rattle.words.specs.Word.{words_of}
 use Rattle.words.specs.WordLaws.{length_words}
 use Rattle.pruning.specs.TableReading.{table_node_at}
 use Rattle.evaluating.specs.Ready.{ready_deep, ready_inside}
-use Rattle.evaluating.specs.Steps.{Evaluable, leaf_short, ready_asks, leaf_worth_lem, both_left, both_right, both_worth, both_settled, turned_child, turned_worth}
+use Rattle.evaluating.specs.Steps.{Evaluable, leaf_short, ready_asks, leaf_worth_lem, both_left, both_right, both_worth, turned_child, turned_worth}
+use Rattle.evaluating.proofs.Steps.{both_settled}
 use Rattle.evaluating.proofs.+worth_at.Goals as goal
 
 -- some depth is left, and the node's word is there
