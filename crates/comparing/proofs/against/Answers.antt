@@ -1,4 +1,4 @@
--- A literal on the left swaps the operator.
+-- A literal on the left swaps the operator. Assumes nothing.
 use Rattle.literals.specs.Literals.{value_of}
 use Rattle.comparing.specs.Comparing.{asks_order, asks_first}
 use Rattle.comparing.proofs.against.Goals as goal

@@ -1,4 +1,4 @@
--- Two integers at once, or any two literals.
+-- Two integers at once, or any two literals. Assumes nothing.
 use mathlib.Core.Path.{sym, ◌∙◌}
 use Prim.Native.Nat.{◌/◌, ◌^◌}
 use mir.Syntax.{w64}

@@ -1,4 +1,4 @@
--- An order is asked; apart is unknown.
+-- An order is asked; apart is unknown. Assumes nothing.
 use Rattle.comparing.proofs.by_order.Goals as goal
 
 pub returns-in-By : goal.returns-in-By

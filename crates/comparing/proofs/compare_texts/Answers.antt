@@ -1,4 +1,4 @@
--- Both texts are lent out of their pools.
+-- Both texts are lent out of their pools. Assumes nothing.
 use Rattle.comparing.proofs.compare_texts.Goals as goal
 
 pub operand_bytes-x-requires : goal.operand_bytes-x-requires

@@ -1,4 +1,4 @@
--- The four cases of two truth values.
+-- The four cases of two truth values. Assumes nothing.
 use Rattle.orders.specs.Order.{order_by}
 use Rattle.comparing.proofs.compare_truths.Goals as goal
 

@@ -1,4 +1,4 @@
--- Values of one type by its order, others apart.
+-- Values of one type by its order, others apart. Assumes nothing.
 use mathlib.Core.Path.{ap, ◌∙◌}
 use mathlib.Core.Option.{some}
 use borrow.Author.Rules.{sfits_of}

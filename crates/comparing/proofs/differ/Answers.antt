@@ -1,4 +1,4 @@
--- Two counts differ as numbers.
+-- Two counts differ as numbers. Assumes nothing.
 use mathlib.Core.Path.{sym, ◌∙◌}
 use Rattle.comparing.specs.Comparing.{differ_is}
 use Rattle.comparing.proofs.differ.Goals as goal

@@ -1,4 +1,4 @@
--- The word's integer.
+-- The word's integer. Assumes nothing.
 use mir.Syntax.{w64}
 use mir.ValLaws.{to_z-of_z}
 use borrow.Author.Rules.{sfits_of}

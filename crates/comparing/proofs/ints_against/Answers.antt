@@ -1,4 +1,4 @@
--- The order of the integers is asked.
+-- The order of the integers is asked. Assumes nothing.
 use mir.Syntax.{w64}
 use mir.ValLaws.{to_z-of_z}
 use mathlib.Core.Path.{◌∙◌}

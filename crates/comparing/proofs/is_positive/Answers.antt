@@ -1,4 +1,4 @@
--- A count is above 0 as a number.
+-- A count is above 0 as a number. Assumes nothing.
 use mathlib.Core.Path.{sym, ◌∙◌}
 use Rattle.comparing.specs.Comparing.{positive_is}
 use Rattle.comparing.proofs.is_positive.Goals as goal

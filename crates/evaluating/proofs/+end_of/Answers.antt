@@ -1,4 +1,4 @@
--- By the kind of the word, with the ends of the children.
+-- By the kind of the word, with the ends of the children. Assumes nothing.
 use Rattle.std.proofs.Common.{rules, ◌≡◌, sym, ◌∙◌, ◌/◌, ◌<◌, ◌≤◌, length, get_or, ℕ, List, [], arith}
 use Rattle.words.specs.Word.{words_of}
 use Rattle.words.specs.WordLaws.{length_words}

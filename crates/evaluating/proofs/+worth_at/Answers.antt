@@ -1,4 +1,4 @@
--- One step, with what its children are worth.
+-- One step, with what its children are worth. Assumes nothing.
 use Rattle.std.proofs.Common.{rules, sym, ◌∙◌, ◌/◌, ◌<◌, ◌≤◌, length, ℕ, List, arith}
 use Rattle.words.specs.Word.{words_of}
 use Rattle.words.specs.WordLaws.{length_words}

@@ -1,4 +1,4 @@
--- Each field of the word, the cell and the literal.
+-- Each field of the word, the cell and the literal. Assumes nothing.
 use Rattle.evaluating.proofs.against_at.Goals as goal
 
 pub against_words-requires : goal.against_words-requires

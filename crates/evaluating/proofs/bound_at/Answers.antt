@@ -1,4 +1,4 @@
--- The literal of the cell's word.
+-- The literal of the cell's word. Assumes nothing.
 use Rattle.evaluating.proofs.bound_at.Goals as goal
 
 pub returns : goal.returns

@@ -1,4 +1,4 @@
--- The count of the cell's word.
+-- The count of the cell's word. Assumes nothing.
 use Rattle.evaluating.proofs.count_in.Goals as goal
 
 pub returns : goal.returns

@@ -1,4 +1,4 @@
--- The counts at both places.
+-- The counts at both places. Assumes nothing.
 use mathlib.Core.Path.{◌∙◌}
 use Rattle.evaluating.proofs.differ_at.Goals as goal
 

@@ -1,4 +1,4 @@
--- From the root, with the whole depth.
+-- From the root, with the whole depth. Assumes nothing.
 use Rattle.cells.specs.Grids.{list_of}
 use Rattle.evaluating.proofs.evaluate.Goals as goal
 

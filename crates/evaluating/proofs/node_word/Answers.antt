@@ -1,4 +1,4 @@
--- A word of the list.
+-- A word of the list. Assumes nothing.
 use mathlib.Core.Path.{sym, ◌∙◌}
 use Rattle.words.specs.WordLaws.{words_at}
 use Rattle.evaluating.proofs.node_word.Goals as goal

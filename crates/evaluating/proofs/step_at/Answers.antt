@@ -1,4 +1,4 @@
--- The kind picks the law of its case.
+-- The kind picks the law of its case. Assumes nothing.
 use mathlib.Core.Path.{sym, ◌∙◌}
 use Prim.Native.Nat.{◌+◌, ◌≤◌}
 use lib.ListN.{get_or}

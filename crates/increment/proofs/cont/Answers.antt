@@ -1,4 +1,4 @@
--- Both tests decide.
+-- Both tests decide. Assumes nothing.
 use borrow.Author.Tests.{le-leb, lt-leb}
 use Rattle.increment.proofs.cont.Goals as goal
 

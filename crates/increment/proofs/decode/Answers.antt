@@ -1,4 +1,4 @@
--- The number of bytes picks the case.
+-- The number of bytes picks the case. Assumes nothing.
 use borrow.Author.Tests.{eq-eqb, ne_eqb}
 use native.Mathlib.Omega.{arith}
 use Rattle.increment.specs.Walk.{decode_at}

@@ -1,4 +1,4 @@
--- The whole is raised as the characters before end are.
+-- The whole is raised as the characters before end are. Assumes nothing.
 use borrow.Author.Rules.{rules}
 use mathlib.Core.Path.{sym, ◌∙◌}
 use Rattle.text.specs.Upper.{rule}

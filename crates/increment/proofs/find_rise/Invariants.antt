@@ -1,4 +1,4 @@
--- The whole is raised as the characters before end are.
+-- The whole is raised as the characters before end are. Assumes nothing.
 use Prim.Native.Nat.{◌≤◌}
 use lib.ListN.{length}
 use Rattle.text.specs.Upper.{rule}

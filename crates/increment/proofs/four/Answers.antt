@@ -1,4 +1,4 @@
--- The bytes as numbers.
+-- The bytes as numbers. Assumes nothing.
 use Rattle.increment.proofs.four.Goals as goal
 
 pub returns : goal.returns

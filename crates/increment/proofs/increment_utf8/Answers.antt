@@ -1,4 +1,4 @@
--- The search's answer says what is stored where.
+-- The search's answer says what is stored where. Assumes nothing.
 use mathlib.Core.Path.{sym, ◌∙◌}
 use native.Mathlib.Omega.{arith}
 use lib.Seq.{length-take-le}

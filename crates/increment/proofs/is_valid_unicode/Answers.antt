@@ -1,4 +1,4 @@
--- Each range that c is not in and the one that it is in pick the case.
+-- Each range that c is not in and the one that it is in pick the case. Assumes nothing.
 use mathlib.Core.Path.{sym, ◌∙◌}
 use Rattle.text.specs.Increment.{allowed}
 use Rattle.increment.proofs.is_valid_unicode.Goals as goal

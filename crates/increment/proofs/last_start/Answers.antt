@@ -1,4 +1,4 @@
--- The walk from the last byte leads where the walk from i leads.
+-- The walk from the last byte leads where the walk from i leads. Assumes nothing.
 use borrow.Author.Rules.{rules}
 use mathlib.Core.Path.{refl, sym, ◌∙◌}
 use Rattle.increment.proofs.Walk.{start_stops, start_goes, start_zero}

@@ -1,4 +1,4 @@
--- The walk from the last byte leads where the walk from i leads.
+-- The walk from the last byte leads where the walk from i leads. Assumes nothing.
 use mathlib.Core.Path.{◌≡◌}
 use Prim.Native.Nat.{◌-◌, ◌<◌}
 use Rattle.increment.specs.Walk.{start_at}

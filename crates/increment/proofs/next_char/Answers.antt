@@ -1,4 +1,4 @@
--- The rule by its test.
+-- The rule by its test. Assumes nothing.
 use mathlib.Core.Path.{sym, ◌∙◌}
 use Rattle.increment.proofs.Rule.{next_to, next_none}
 use Rattle.increment.proofs.next_char.Goals as goal

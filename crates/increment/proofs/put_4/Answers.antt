@@ -1,4 +1,4 @@
--- Stores one after the other.
+-- Stores one after the other. Assumes nothing.
 use native.Mathlib.Omega.{arith}
 use native.Mathlib.Numerals.{towards_suc}
 use lib.ListN.{length-set}

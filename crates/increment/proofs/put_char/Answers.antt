@@ -1,4 +1,4 @@
--- The tests pick the size.
+-- The tests pick the size. Assumes nothing.
 use native.Mathlib.Omega.{arith}
 use Rattle.text.specs.Utf8.{encode_1, encode_2, encode_3, encode_4}
 use Rattle.increment.proofs.put_char.Goals as goal

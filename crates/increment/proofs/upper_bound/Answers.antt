@@ -1,4 +1,4 @@
--- The prefix, then its increment where a wildcard is left.
+-- The prefix, then its increment where a wildcard is left. Assumes nothing.
 use mathlib.Core.Path.{sym, ◌∙◌, ap}
 use lib.ListN.{length}
 use Rattle.increment.proofs.Bound.{ready, whole, risen}

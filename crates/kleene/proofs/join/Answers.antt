@@ -1,4 +1,4 @@
--- Each arm is the operation that it names.
+-- Each arm is the operation that it names. Assumes nothing.
 use borrow.Author.Rules.{rules}
 use Rattle.kleene.proofs.join.Goals as goal
 

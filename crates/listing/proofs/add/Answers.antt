@@ -1,4 +1,4 @@
--- A listed statistic changes nothing; another is stored behind the first n.
+-- A listed statistic changes nothing; another is stored behind the first n. Assumes nothing.
 use native.Mathlib.Nat.{sub-zero}
 use Rattle.listing.specs.Listing.{listed_in}
 use Rattle.listing.specs.ListingLaws.{grown_old, room_new, grown_new}

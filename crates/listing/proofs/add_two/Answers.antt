@@ -1,4 +1,4 @@
--- Two growths, one after the other.
+-- Two growths, one after the other. Assumes nothing.
 use mathlib.Core.List.{[], ◌∷◌}
 use Rattle.listing.specs.ListingLaws.{room_first, room_next, grown_then}
 use Rattle.listing.proofs.add_two.Goals as goal

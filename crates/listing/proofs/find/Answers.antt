@@ -1,4 +1,4 @@
--- A statistic stands where its key does.
+-- A statistic stands where its key does. Assumes nothing.
 use mathlib.Core.Path.{◌∙◌}
 use Rattle.listing.specs.Listing.{list_of}
 use Rattle.listing.proofs.Laws.{place_key}

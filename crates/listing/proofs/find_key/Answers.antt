@@ -1,4 +1,4 @@
--- The place is i more than that in what is left from word i on.
+-- The place is i more than that in what is left from word i on. Assumes nothing.
 use borrow.Author.Rules.{rules}
 use mathlib.Core.Path.{sym, ◌∙◌}
 use native.Mathlib.Nat.{zero-add}

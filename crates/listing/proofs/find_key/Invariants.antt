@@ -1,4 +1,4 @@
--- The place is i more than that in what is left from word i on.
+-- The place is i more than that in what is left from word i on. Assumes nothing.
 use mathlib.Core.Path.{◌≡◌}
 use Prim.Native.Nat.{◌+◌, ◌-◌, ◌≤◌}
 use lib.ListN.{drop}

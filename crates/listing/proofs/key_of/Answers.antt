@@ -1,4 +1,4 @@
--- Each arm is the key of its case.
+-- Each arm is the key of its case. Assumes nothing.
 use borrow.Author.Rules.{rules}
 use native.Mathlib.Omega.{arith}
 use Rattle.listing.proofs.key_of.Goals as goal

@@ -1,4 +1,4 @@
--- The list is that of the operator's arm.
+-- The list is that of the operator's arm. Assumes nothing.
 use Rattle.listing.proofs.list_comparison.Goals as goal
 
 pub list_bounds-requires : goal.list_bounds-requires

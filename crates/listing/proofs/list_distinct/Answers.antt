@@ -1,4 +1,4 @@
--- Two growths, one after the other.
+-- Two growths, one after the other. Assumes nothing.
 use mathlib.Core.List.{[], ◌∷◌}
 use Rattle.statistics.specs.declared.Statistic.TheVariants.{Blanks, Rows}
 use Rattle.table.specs.Rewriting.{column_lists}

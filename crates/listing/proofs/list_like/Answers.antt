@@ -1,4 +1,4 @@
--- The list is that of the test.
+-- The list is that of the test. Assumes nothing.
 use Rattle.listing.proofs.list_like.Goals as goal
 
 pub list_bounds-requires : goal.list_bounds-requires

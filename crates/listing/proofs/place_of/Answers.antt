@@ -1,4 +1,4 @@
--- A place among few statistics is one byte.
+-- A place among few statistics is one byte. Assumes nothing.
 use native.Mathlib.Omega.{arith}
 use Rattle.listing.specs.ListingLaws.{place_few}
 use Rattle.listing.proofs.place_of.Goals as goal

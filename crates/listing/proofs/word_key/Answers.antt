@@ -1,4 +1,4 @@
--- Of type 3 a word is the rows entry, else its fields are the key.
+-- Of type 3 a word is the rows entry, else its fields are the key. Assumes nothing.
 use mathlib.Core.Path.{sym}
 use Rattle.listing.proofs.Laws.{key_rows, key_other}
 use Rattle.listing.proofs.word_key.Goals as goal

@@ -1,4 +1,4 @@
--- Each test is that of the exact integers.
+-- Each test is that of the exact integers. Assumes nothing.
 use mathlib.Core.Path.{sym}
 use mir.Facts.{to_z-of_z}
 use Rattle.literals.specs.Signed.{int_less, int_greater, int_equal}

@@ -1,4 +1,4 @@
--- The type picks the law of its case.
+-- The type picks the law of its case. Assumes nothing.
 use native.Mathlib.Omega.{arith}
 use mathlib.Core.Path.{◌≡◌, sym, ◌∙◌}
 use borrow.Author.Rules.{rules, sfits_of}

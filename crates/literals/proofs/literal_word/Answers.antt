@@ -1,4 +1,4 @@
--- Each arm packs the fields that its case names.
+-- Each arm packs the fields that its case names. Assumes nothing.
 use borrow.Author.Rules.{rules}
 use mathlib.Core.Path.{◌∙◌}
 use Rattle.literals.proofs.literal_word.Goals as goal

@@ -1,4 +1,4 @@
--- Of a negative integer -1 - x is no longer negative, and is its bits turned over.
+-- Of a negative integer -1 - x is no longer negative, and is its bits turned over. Assumes nothing.
 use native.Mathlib.Omega.{arith}
 use mathlib.Core.Path.{◌≡◌, sym, ap, ◌∙◌}
 use mathlib.Core.Bool.{true, false}

@@ -1,4 +1,4 @@
--- A code past both arms is null's, or past the list's end.
+-- A code past both arms is null's, or past the list's end. Assumes nothing.
 use Rattle.std.proofs.Common.{arith, sym}
 use Rattle.predicate.specs.KindLaws.{constant_null}
 use Rattle.predicate.proofs.constant_of.Goals as goal

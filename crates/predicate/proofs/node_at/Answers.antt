@@ -1,4 +1,4 @@
--- The two words at the place, both 0 past the end.
+-- The two words at the place, both 0 past the end. Assumes nothing.
 use Rattle.std.proofs.Common.{◌+◌, arith}
 use Rattle.words.specs.WordLaws.{words_past}
 use Rattle.predicate.proofs.node_at.Goals as goal

@@ -1,4 +1,4 @@
--- A word of the list, or past its end.
+-- A word of the list, or past its end. Assumes nothing.
 use mathlib.Core.Path.{sym}
 use Rattle.words.specs.WordLaws.{length_words, words_at}
 use Rattle.statistics.specs.Reading.{read_at, read_past}

@@ -1,4 +1,4 @@
--- The type picks its place of the list.
+-- The type picks its place of the list. Assumes nothing.
 use native.Mathlib.Omega.{arith}
 use mathlib.Core.Path.{◌≡◌}
 use Rattle.statistics.specs.Statistics.{statistic_of, type_field}

@@ -1,4 +1,4 @@
--- Each test of the word has its law.
+-- Each test of the word has its law. Assumes nothing.
 use mathlib.Core.Path.{sym}
 use Rattle.suiting.specs.Suiting.{fitting_none, integer_fits, integer_unfit}
 use Rattle.suiting.proofs.integer_suits.Goals as goal

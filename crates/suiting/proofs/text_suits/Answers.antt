@@ -1,4 +1,4 @@
--- Each test of the word has its law.
+-- Each test of the word has its law. Assumes nothing.
 use mathlib.Core.Path.{sym, ◌∙◌}
 use Rattle.literals.specs.Literals.{text_type}
 use Rattle.suiting.specs.Suiting.{fitting_none, text_fits, text_unfit, field_unfit}

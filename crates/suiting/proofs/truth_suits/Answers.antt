@@ -1,4 +1,4 @@
--- False and true are two words.
+-- False and true are two words. Assumes nothing.
 use mathlib.Core.Path.{sym}
 use Rattle.suiting.specs.Suiting.{fitting_none, truth_is}
 use Rattle.suiting.proofs.truth_suits.Goals as goal

@@ -1,4 +1,4 @@
--- The type picks its test; of no other is there a word but null's.
+-- The type picks its test; of no other is there a word but null's. Assumes nothing.
 use mathlib.Core.Path.{sym}
 use Rattle.suiting.specs.Suiting.{none_is}
 use Rattle.suiting.proofs.word_suits.Goals as goal

@@ -1,4 +1,4 @@
--- The bytes are UTF-8 where the machine, from its present state, accepts what is left of them from i on.
+-- The bytes are UTF-8 where the machine, from its present state, accepts what is left of them from i on. Assumes nothing.
 use borrow.Author.Rules.{rules}
 use mathlib.Core.Path.{◌≡◌, refl, sym, ◌∙◌}
 use Prim.Native.Nat.{◌≤◌, ◌-◌}

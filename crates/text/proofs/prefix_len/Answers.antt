@@ -1,4 +1,4 @@
--- The prefix is n bytes longer than that of what is left of the pattern from i on.
+-- The prefix is n bytes longer than that of what is left of the pattern from i on. Assumes nothing.
 use borrow.Author.Rules.{rules}
 use mathlib.Core.Path.{◌≡◌, sym, ◌∙◌}
 use mathlib.Core.Bool.{false}

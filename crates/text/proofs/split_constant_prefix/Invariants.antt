@@ -1,4 +1,4 @@
--- The pattern has the rest that what is left of it from i on has.
+-- The pattern has the rest that what is left of it from i on has. Assumes nothing.
 use borrow.Author.Rules.{rules}
 use mathlib.Core.Path.{◌≡◌, sym, ◌∙◌}
 use mathlib.Core.Bool.{false}

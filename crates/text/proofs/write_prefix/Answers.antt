@@ -1,4 +1,4 @@
--- What is still to be stored, from n on, is the prefix of what is left of the pattern from i on.
+-- What is still to be stored, from n on, is the prefix of what is left of the pattern from i on. Assumes nothing.
 use borrow.Author.Rules.{rules}
 use mathlib.Core.Path.{◌≡◌, sym, ◌∙◌}
 use mathlib.Core.Bool.{false}

@@ -1,4 +1,4 @@
--- What is_utf8 accepts is UTF-8.
+-- What is_utf8 accepts is UTF-8. Assumes nothing.
 use Rattle.std.proofs.Common.{arith, sym, ◌∙◌}
 use Rattle.text.proofs.Valid.{utf8_iff}
 use Rattle.textcases.proofs.run.Goals as goal

@@ -1,4 +1,4 @@
--- The prefix is no longer than the pattern.
+-- The prefix is no longer than the pattern. Assumes nothing.
 use Rattle.std.proofs.Common.{arith, sym}
 use lib.Seq.{length-take-le}
 use Rattle.text.specs.Upper.{prefix_length}

@@ -1,4 +1,4 @@
--- The upper bound has at most one byte more than the pattern.
+-- The upper bound has at most one byte more than the pattern. Assumes nothing.
 use Rattle.std.proofs.Common.{arith}
 use Rattle.text.specs.Upper.{prefix_length}
 use Rattle.textcases.proofs.show_upper.Goals as goal

@@ -1,4 +1,4 @@
--- Each flip: a null stays null, an integer becomes its minus where it has one, and the operator is swapped.
+-- Each flip: a null stays null, an integer becomes its minus where it has one, and the operator is swapped. Assumes nothing.
 use borrow.Author.Rules.{rules}
 use mathlib.Core.Path.{sym, ◌∙◌}
 use mir.Syntax.{w64}

@@ -1,4 +1,4 @@
--- Unhandled where the literal came first, else by the flips.
+-- Unhandled where the literal came first, else by the flips. Assumes nothing.
 use Rattle.table.specs.Comparisons.{no_flips, unturned}
 use mathlib.Core.Bool.{true, false}
 use mathlib.Core.Path.{refl}

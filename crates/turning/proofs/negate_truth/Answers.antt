@@ -1,4 +1,4 @@
--- Only a truth value changes.
+-- Only a truth value changes. Assumes nothing.
 use borrow.Author.Rules.{rules}
 use mathlib.Core.Path.{refl}
 use mir.Syntax.{w64}

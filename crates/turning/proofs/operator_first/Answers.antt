@@ -1,4 +1,4 @@
--- Swapped where the literal came first.
+-- Swapped where the literal came first. Assumes nothing.
 use Rattle.turning.proofs.operator_first.Goals as goal
 
 pub returns-then-first : goal.returns-then-first

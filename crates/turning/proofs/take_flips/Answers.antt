@@ -1,4 +1,4 @@
--- Each type's flips.
+-- Each type's flips. Assumes nothing.
 use Rattle.table.specs.Comparisons.{minuses, truth_flips, no_flips, flipped}
 use Rattle.turning.proofs.Laws.{turns_as, flipped_int, flipped_truth, flipped_other}
 use Rattle.turning.proofs.take_flips.Goals as goal

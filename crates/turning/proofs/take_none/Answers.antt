@@ -1,4 +1,4 @@
--- No flip, or unhandled.
+-- No flip, or unhandled. Assumes nothing.
 use Rattle.table.specs.Comparisons.{no_flips}
 use Rattle.turning.proofs.Laws.{against, unhandled, none_none, none_more}
 use Rattle.turning.proofs.take_none.Goals as goal

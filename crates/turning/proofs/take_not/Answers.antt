@@ -1,4 +1,4 @@
--- = and ≠ take the literal negated, the others none.
+-- = and ≠ take the literal negated, the others none. Assumes nothing.
 use mathlib.Core.Path.{refl}
 use Rattle.turning.proofs.Laws.{negates, unhandled}
 use Rattle.turning.proofs.take_not.Goals as goal

@@ -1,4 +1,4 @@
--- None, one, or more flips.
+-- None, one, or more flips. Assumes nothing.
 use Rattle.table.specs.Comparisons.{flip_once, truth_flips}
 use Rattle.turning.proofs.Laws.{against, unhandled, turns_as, flips_none, flips_one, flips_more}
 use Rattle.turning.proofs.take_nots.Goals as goal

@@ -1,4 +1,4 @@
--- By whether the operator has a swap.
+-- By whether the operator has a swap. Assumes nothing.
 use mathlib.Core.Path.{sym, ◌∙◌}
 use Rattle.table.specs.Comparisons.{ordered, unturned, turned}
 use Rattle.turning.proofs.Laws.{turns_as, turned_swap, turned_other}

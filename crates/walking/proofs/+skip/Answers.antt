@@ -1,4 +1,4 @@
--- Where the node was read, the predicate is the node's; then each arm.
+-- Where the node was read, the predicate is the node's; then each arm. Assumes nothing.
 use Rattle.std.proofs.Common.{◌∙◌, sym, rules}
 use Rattle.predicate.specs.Predicates.{read_zero, read_node}
 use Rattle.walking.specs.Places.{near_first, near_second}

@@ -1,4 +1,4 @@
--- Both strings compare as what is left of them from i on.
+-- Both strings compare as what is left of them from i on. Assumes nothing.
 use borrow.Author.Rules.{rules}
 use mathlib.Core.Path.{◌≡◌, sym, ◌∙◌}
 use Prim.Native.Nat.{◌≤◌, ◌-◌}

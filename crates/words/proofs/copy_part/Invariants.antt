@@ -1,4 +1,4 @@
--- After j turns the first j bytes of the part are stored.
+-- After j turns the first j bytes of the part are stored. Assumes nothing.
 use borrow.Author.Rules.{rules}
 use mathlib.Core.Path.{◌≡◌, refl, ◌∙◌}
 use native.Mathlib.Omega.{arith}

@@ -1,4 +1,4 @@
--- Only a text is cut.
+-- Only a text is cut. Assumes nothing.
 use mathlib.Core.Path.{refl}
 use Rattle.writing.proofs.Laws.{clip_text}
 use Rattle.writing.proofs.clip.Goals as goal

@@ -1,4 +1,4 @@
--- One word at the spot.
+-- One word at the spot. Assumes nothing.
 use mathlib.Core.Path.{refl, ◌∙◌}
 use native.Mathlib.Omega.{arith}
 use Rattle.words.specs.WordLaws.{bytes_one}

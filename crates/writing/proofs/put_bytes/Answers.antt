@@ -1,4 +1,4 @@
--- Each case stores its bytes, and a null or a truth value none.
+-- Each case stores its bytes, and a null or a truth value none. Assumes nothing.
 use borrow.Author.Rules.{rules}
 use mathlib.Core.Path.{refl, sym, ◌∙◌}
 use native.Mathlib.Nat.{add-zero}

@@ -1,4 +1,4 @@
--- Each join's kind.
+-- Each join's kind. Assumes nothing.
 use Rattle.writing.proofs.put_join.Goals as goal
 
 pub returns-in-And : goal.returns-in-And

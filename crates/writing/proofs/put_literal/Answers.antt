@@ -1,4 +1,4 @@
--- A word, and bytes.
+-- A word, and bytes. Assumes nothing.
 use mathlib.Core.Path.{◌∙◌}
 use Rattle.literals.specs.LiteralLaws.{literal_word_value}
 use Rattle.writing.proofs.put_literal.Goals as goal

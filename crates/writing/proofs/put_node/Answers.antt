@@ -1,4 +1,4 @@
--- The word that was made.
+-- The word that was made. Assumes nothing.
 use Rattle.writing.proofs.put_node.Goals as goal
 
 pub returns : goal.returns

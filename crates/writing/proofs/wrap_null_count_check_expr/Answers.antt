@@ -1,4 +1,4 @@
--- Two words, one behind the other.
+-- Two words, one behind the other. Assumes nothing.
 use borrow.Author.Rules.{rules}
 use mathlib.Core.List.{[], ◌∷◌}
 use native.Mathlib.Omega.{arith}

@@ -1,4 +1,4 @@
--- A node's word, then its literal.
+-- A node's word, then its literal. Assumes nothing.
 use borrow.Author.Rules.{rules}
 use native.Mathlib.Omega.{arith}
 use Rattle.operators.specs.Operators.{code_below}

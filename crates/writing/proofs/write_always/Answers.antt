@@ -1,4 +1,4 @@
--- One word.
+-- One word. Assumes nothing.
 use mathlib.Core.Path.{refl}
 use Rattle.table.specs.Encoding.{pool_of, table_words}
 use Rattle.table.specs.Tables.{always}

@@ -1,4 +1,4 @@
--- A join's word, then its sides.
+-- A join's word, then its sides. Assumes nothing.
 use borrow.Author.Rules.{rules}
 use mathlib.Core.List.{[], ◌∷◌}
 use native.Mathlib.Omega.{arith}

@@ -1,4 +1,4 @@
--- A NOT's word, then the column's join.
+-- A NOT's word, then the column's join. Assumes nothing.
 use borrow.Author.Rules.{rules}
 use mathlib.Core.List.{[], ◌∷◌}
 use native.Mathlib.Omega.{arith}

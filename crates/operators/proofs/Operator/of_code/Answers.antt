@@ -1,4 +1,4 @@
--- Each code reads its own place of the list, and a code past all arms is past the list's end.
+-- Each code reads its own place of the list, and a code past all arms is past the list's end. Assumes nothing.
 use mathlib.Core.Path.{sym}
 use Prim.Native.Nat.{zero-le}
 use lib.ListN.{get_or-eq_default}
