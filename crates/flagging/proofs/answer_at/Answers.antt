@@ -1,5 +1,4 @@
 -- Past the end a list has its default.
-use borrow.Author.Rules.{rules}
 use mathlib.Core.Path.{sym}
 use lib.ListN.{get_or-eq_default}
 use Rattle.flagging.proofs.answer_at.Goals as goal

@@ -1,10 +1,9 @@
 -- What is left of the guarantees drops or not.
 use borrow.Author.Rules.{rules}
-use mathlib.Core.Path.{◌≡◌, sym, ◌∙◌}
-use Prim.Native.Nat.{◌-◌, ◌+◌, ◌/◌, ◌≤◌}
+use mathlib.Core.Path.{sym, ◌∙◌}
+use Prim.Native.Nat.{◌+◌}
 use native.Mathlib.Nat.{add-zero}
-use lib.ListN.{length}
-use Rattle.flagging.specs.Flags.{drops_from, drops_end, drops_here, drops_next}
+use Rattle.flagging.specs.Flags.{drops_end, drops_here, drops_next}
 use Rattle.flagging.proofs.answers_drop.Goals as goal
 
 pub loop-i-init : goal.loop-i-init

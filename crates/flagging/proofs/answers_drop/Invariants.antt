@@ -1,10 +1,8 @@
 -- What is left of the guarantees drops or not.
-use borrow.Author.Rules.{rules}
-use mathlib.Core.Path.{◌≡◌, sym, ◌∙◌}
+use mathlib.Core.Path.{◌≡◌}
 use Prim.Native.Nat.{◌-◌, ◌+◌, ◌/◌, ◌≤◌}
-use native.Mathlib.Nat.{add-zero}
 use lib.ListN.{length}
-use Rattle.flagging.specs.Flags.{drops_from, drops_end, drops_here, drops_next}
+use Rattle.flagging.specs.Flags.{drops_from}
 use Rattle.flagging.proofs.answers_drop.Given as goal
 
 abbrev pub invariant-loop-i : goal.invariant-loop-i

@@ -1,5 +1,4 @@
 -- By the table's worth and by the answers.
-use borrow.Author.Rules.{rules}
 use Rattle.flagging.proofs.container_flag.Goals as goal
 
 pub evaluate-t-requires : goal.evaluate-t-requires

@@ -1,5 +1,4 @@
 -- False drops, and so does an answer.
-use borrow.Author.Rules.{rules}
 use Rattle.flagging.proofs.flag_of.Goals as goal
 
 pub returns-then-is_false : goal.returns-then-is_false
