@@ -1,4 +1,4 @@
--- A judged word leads to a refusal or to what stands behind it; each child is checked with a depth less.
+-- A judged word leads to a refusal or to what stands behind it; each child is checked with a depth less. Assumes nothing.
 use Rattle.std.proofs.Common.{◌∙◌, ◌≡◌, ◌<◌, ◌/◌, ℕ, List, length, rules, sym}
 use Rattle.words.specs.Word.{words_of}
 use Rattle.words.specs.WordLaws.{length_words}

@@ -1,4 +1,4 @@
--- By the depth that is left.
+-- By the depth that is left. Assumes nothing.
 use Rattle.checking.proofs.+check.Given as goal
 
 abbrev pub decreases-check : goal.decreases-check

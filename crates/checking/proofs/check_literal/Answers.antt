@@ -1,4 +1,4 @@
--- By the law of each case: no word, a fault, no fault.
+-- By the law of each case: no word, a fault, no fault. Assumes nothing.
 use Rattle.std.proofs.Common.{◌∙◌, ◌≡◌, sym}
 use Rattle.words.specs.Word.{words_of}
 use Rattle.words.specs.WordLaws.{length_words}

@@ -1,4 +1,4 @@
--- What is left of the literals decides.
+-- What is left of the literals decides. Assumes nothing.
 use mathlib.Core.Path.{refl, sym, ◌∙◌}
 use native.Mathlib.Omega.{arith}
 use Rattle.predicate.specs.CheckingLaws.{then_refused, then_passed}

@@ -1,4 +1,4 @@
--- What is left of the literals decides.
+-- What is left of the literals decides. Assumes nothing.
 use mathlib.Core.Path.{◌≡◌}
 use Rattle.words.specs.Word.{words_of}
 use Rattle.predicate.specs.Checking.{check_literals}

@@ -1,4 +1,4 @@
--- A refusal, no word left over, or some.
+-- A refusal, no word left over, or some. Assumes nothing.
 use mathlib.Core.Path.{sym, ◌∙◌}
 use Rattle.words.specs.WordLaws.{length_words}
 use Rattle.predicate.proofs.CheckingLaws.{fault_refused, fault_passed, fault_left}

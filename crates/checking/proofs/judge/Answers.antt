@@ -1,4 +1,4 @@
--- No word, no fault, or a fault.
+-- No word, no fault, or a fault. Assumes nothing.
 use Rattle.std.proofs.Common.{◌∙◌, ◌≡◌, arith, sym}
 use Rattle.words.specs.Word.{words_of}
 use Rattle.words.specs.WordLaws.{length_words}

@@ -1,4 +1,4 @@
--- Each kind reads its own place of the list, and a kind past all arms is past the list's end.
+-- Each kind reads its own place of the list, and a kind past all arms is past the list's end. Assumes nothing.
 use Rattle.std.proofs.Common.{◌∙◌, arith, sym}
 use Rattle.predicate.specs.KindLaws.{shape_unknown}
 use Rattle.checking.proofs.shape_of.Goals as goal

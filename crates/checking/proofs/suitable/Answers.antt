@@ -1,4 +1,4 @@
--- What suits as a text lies inside the pool.
+-- What suits as a text lies inside the pool. Assumes nothing.
 use Rattle.std.proofs.Common.{◌∙◌, sym}
 use Rattle.checking.proofs.Laws.{text_inside}
 use Rattle.checking.proofs.suitable.Goals as goal

@@ -1,4 +1,4 @@
--- What is left of the schema decides.
+-- What is left of the schema decides. Assumes nothing.
 use borrow.Author.Rules.{rules}
 use mathlib.Core.Path.{refl, sym, ◌∙◌}
 use lib.ListN.{drop_of_length-le}

@@ -1,4 +1,4 @@
--- What is left of the schema decides.
+-- What is left of the schema decides. Assumes nothing.
 use mathlib.Core.Path.{◌≡◌}
 use Prim.Native.Nat.{◌≤◌, ◌-◌}
 use lib.ListN.{length, drop}
