@@ -1,4 +1,4 @@
--- Past the end a list has its default.
+-- Past the end a list has its default. Assumes nothing.
 use mathlib.Core.Path.{sym}
 use lib.ListN.{get_or-eq_default}
 use Rattle.flagging.proofs.answer_at.Goals as goal

@@ -1,4 +1,4 @@
--- In and NotIn drop on different answers.
+-- In and NotIn drop on different answers. Assumes nothing.
 use Rattle.flagging.proofs.answer_drops.Goals as goal
 
 pub returns-then-not_in : goal.returns-then-not_in

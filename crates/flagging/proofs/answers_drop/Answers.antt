@@ -1,4 +1,4 @@
--- What is left of the guarantees drops or not.
+-- What is left of the guarantees drops or not. Assumes nothing.
 use borrow.Author.Rules.{rules}
 use mathlib.Core.Path.{sym, ◌∙◌}
 use Prim.Native.Nat.{◌+◌}

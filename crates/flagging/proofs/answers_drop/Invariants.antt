@@ -1,4 +1,4 @@
--- What is left of the guarantees drops or not.
+-- What is left of the guarantees drops or not. Assumes nothing.
 use mathlib.Core.Path.{◌≡◌}
 use Prim.Native.Nat.{◌-◌, ◌+◌, ◌/◌, ◌≤◌}
 use lib.ListN.{length}

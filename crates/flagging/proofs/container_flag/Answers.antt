@@ -1,4 +1,4 @@
--- By the table's worth and by the answers.
+-- By the table's worth and by the answers. Assumes nothing.
 use Rattle.flagging.proofs.container_flag.Goals as goal
 
 pub evaluate-t-requires : goal.evaluate-t-requires

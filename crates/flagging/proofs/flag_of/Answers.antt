@@ -1,4 +1,4 @@
--- False drops, and so does an answer.
+-- False drops, and so does an answer. Assumes nothing.
 use Rattle.flagging.proofs.flag_of.Goals as goal
 
 pub returns-then-is_false : goal.returns-then-is_false

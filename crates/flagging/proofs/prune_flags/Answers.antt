@@ -1,4 +1,4 @@
--- After i turns the first i flags are stored.
+-- After i turns the first i flags are stored. Assumes nothing.
 use Rattle.std.proofs.Common.{rules, arith, refl}
 use lib.ListN.{length, length-set}
 use Prim.Native.Nat.{◌/◌}

@@ -1,4 +1,4 @@
--- After i turns the first i flags are stored.
+-- After i turns the first i flags are stored. Assumes nothing.
 use Rattle.std.proofs.Common.{◌≡◌, ◌-◌, ◌*◌, ◌/◌, ◌≤◌, length}
 use Rattle.std.proofs.lemmas.List.Edits.{sets}
 use Rattle.flagging.specs.Flags.{width, flags_for}

@@ -1,4 +1,4 @@
--- The first test that fails decides.
+-- The first test that fails decides. Assumes nothing.
 use borrow.Author.Rules.{rules}
 use native.Mathlib.Omega.{arith}
 use mathlib.Core.Path.{sym, ◌∙◌}

@@ -1,4 +1,4 @@
--- An accepted call has room for all that it writes, and its statistics are read back as they were listed.
+-- An accepted call has room for all that it writes, and its statistics are read back as they were listed. Assumes nothing.
 use Rattle.std.proofs.Common.{rules, arith}
 use Rattle.spill.specs.Done.{Buffers}
 use Rattle.spill.specs.Rewriting.{buffers_of, accepted, front_list, front_few, front_fits, front_count, roomy, promised, counts, rewrote_outputs}
