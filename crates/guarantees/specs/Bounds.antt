@@ -1,7 +1,6 @@
 -- How many guarantees a predicate gives, and that each names a column and a node word of the predicate. Assumes nothing.
 use Rattle.std.specs.Prelude.{Bool, true, false, List, [], ◌∷◌, ◌++◌, ℕ, zero, suc, ◌+◌, ◌^◌, ◌≤◌, ◌<◌, length}
 use Rattle.std.proofs.Common.{arith, length-append}
-use Rattle.limits.specs.Limits.{max_columns, max_guarantees}
 use Rattle.operators.specs.declared.Operator.{Operator}
 use Rattle.operators.specs.declared.Operator.TheVariants.{Equal, NotEqual, Below, AtMost, Above, AtLeast, Distinct, NotDistinct}
 use Rattle.kleene.specs.declared.Joining.TheVariants.{And, Or}
@@ -9,7 +8,7 @@ use Rattle.literals.specs.Literals.{Value}
 use Rattle.predicate.specs.declared.Column.{Column}
 use Rattle.predicate.specs.Predicates.{Predicate, constant, join, not, column, is_null, is_not_null, comparison, list, like}
 use Rattle.predicate.specs.Measures.{width, leaves}
-use Rattle.predicate.specs.Accepted.{ColumnsBelow, width_most, Whole}
+use Rattle.predicate.specs.Accepted.{ColumnsBelow}
 use Rattle.guarantees.specs.Guarantees.{Guarantee, non_null, over_set, unflipped, of_comparison, guarantees}
 use Rattle.guarantees.specs.GuaranteeLaws.{AllSmall}
 

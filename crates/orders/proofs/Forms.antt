@@ -1,6 +1,6 @@
 -- The form of each comparison over a least and a greatest value: true where a value between them satisfies the comparison, and, if
 -- least ≤ greatest, only there. Assumes nothing.
-use Rattle.std.specs.Prelude.{◌≡◌, Bool, true, false}
+use Rattle.std.specs.Prelude.{◌≡◌, true, false}
 use Rattle.std.proofs.Common.{sym, ◌∙◌, true≢false}
 use Rattle.operators.specs.declared.Operator.{Operator}
 use Rattle.operators.specs.declared.Operator.TheVariants.{Equal, NotEqual, Below, AtMost, Above, AtLeast, Distinct, NotDistinct}

@@ -1,25 +1,11 @@
 -- Values of one kind compare by a total order: the facts about comparing values, once over any such kind. Assumes nothing.
-use Rattle.std.specs.Prelude.{◌≡◌, refl, Bool, true, false, not, List, ℕ, zero, suc, ℤ, pos, negsuc, neg_ℤ}
-use Rattle.std.proofs.Common.{sym, ◌∙◌, ap, true≢false, arith, le-leb}
-use Rattle.std.proofs.Math.Option.{Option, some, none}
-use Rattle.std.proofs.Math.Dec.{leb-suc-suc}
-use Rattle.std.proofs.Math.IntN.{neg_ℤ-neg_ℤ}
-use Rattle.std.specs.Int.Signed.{le_z}
-use Rattle.std.proofs.lemmas.Bool.{lt-leb}
-use Rattle.operators.specs.Operators.{holds, swap_of, turned, swap_means}
-use Rattle.words.specs.declared.Order.{Order}
-use Rattle.words.specs.declared.Order.TheVariants.{Less, Equal as Same, Greater}
+use Rattle.std.specs.Prelude.{◌≡◌, false}
 use Rattle.operators.specs.declared.Operator.{Operator}
 use Rattle.operators.specs.declared.Operator.TheVariants.{Equal, NotEqual, Below, AtMost, Above, AtLeast, Distinct, NotDistinct}
-use Rattle.kleene.specs.declared.Truth.{Truth}
 use Rattle.kleene.specs.declared.Truth.TheVariants.{Unknown, True}
-use Rattle.kleene.specs.Truths.{truth_of}
-use Rattle.kleene.specs.TruthLaws.{false_true, unknown_true}
-use Rattle.literals.specs.Literals.{Value, null, int, text, truth, integer_type, text_type, truth_type}
+use Rattle.literals.specs.Literals.{Value}
 use Rattle.literals.specs.LiteralLaws.{value_type}
-use Rattle.orders.specs.Order.{TotalOrder, order_by, compares, compares_swap}
-use Rattle.orders.specs.Instances.{numbers, texts, truths}
-use Rattle.orders.specs.Values.{order_of, by_order, compared, is_null, is_same, alike}
+use Rattle.orders.specs.Values.{order_of, by_order, compared, is_null}
 use Rattle.orders.specs.ValueLaws.{alike_order, apart, by_known, one_type, together, unknown_not}
 
 -- a comparison that is known is one of values of one type

@@ -10,7 +10,7 @@ use Rattle.operators.specs.Operators.{holds, swap_of, turned, swap_means}
 use Rattle.words.specs.declared.Order.{Order}
 use Rattle.words.specs.declared.Order.TheVariants.{Less, Equal as Same, Greater}
 use Rattle.operators.specs.declared.Operator.{Operator}
-use Rattle.operators.specs.declared.Operator.TheVariants.{Equal, NotEqual, Below, AtMost, Above, AtLeast, Distinct, NotDistinct}
+use Rattle.operators.specs.declared.Operator.TheVariants.{Distinct, NotDistinct}
 use Rattle.kleene.specs.declared.Truth.{Truth}
 use Rattle.kleene.specs.declared.Truth.TheVariants.{Unknown, True}
 use Rattle.kleene.specs.Truths.{truth_of}
@@ -19,7 +19,7 @@ use Rattle.literals.specs.Literals.{Value, null, int, text, truth, integer_type,
 use Rattle.literals.specs.LiteralLaws.{value_type}
 use Rattle.orders.specs.Order.{TotalOrder, order_by, compares, compares_swap}
 use Rattle.orders.specs.Instances.{numbers, texts, truths}
-use Rattle.orders.specs.Values.{order_of, by_order, compared, is_null, is_same, alike}
+use Rattle.orders.specs.Values.{order_of, by_order, is_null, is_same, alike}
 
 -- a kind of value: an order, and how its values stand among all
 pub record Kind : Type 1 where

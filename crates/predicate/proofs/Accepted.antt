@@ -1,30 +1,17 @@
 -- What follows when checking passes: the predicate that the words stand for fits the schema, and its measures are what checking
 -- has counted, within the limits. Assumes nothing.
-use Rattle.std.specs.Prelude.{◌≡◌, refl, Bool, true, not as negation, List, [], ◌∷◌, ◌++◌, length, get_or, eqb}
-use Rattle.std.proofs.Common.{sym, ap, ◌∙◌, arith, length-take, length-drop, eq-eqb}
+use Rattle.std.specs.Prelude.{◌≡◌, refl, Bool, true, List, [], ◌∷◌, length, get_or}
+use Rattle.std.proofs.Common.{sym, ◌∙◌, arith}
 use Rattle.std.proofs.Math.Bool.{false}
-use Prim.Native.Nat.{ℕ, zero, suc, ◌+◌, ◌*◌, ◌≤◌, ◌<◌}
-use Rattle.limits.specs.Limits.{max_nodes, max_list_literals, max_literal_bytes, max_all_literal_bytes, max_depth}
-use Rattle.words.specs.Word.{range_of}
-use Rattle.words.specs.WordLaws.{length_word}
-use Rattle.words.specs.Pools.{Inside}
-use Rattle.words.specs.Tests.{or_other}
-use Rattle.words.specs.declared.Range.{Range}
-use Rattle.literals.specs.Signed.{Fits64, signed_fits}
-use Rattle.literals.specs.Literals.{Value, null, int, text, truth, value_of, value_at, value_bytes, literal_of, type_of, length_of, plain, integer_type, text_type, truth_type}
-use Rattle.literals.specs.LiteralLaws.{Plain}
-use Rattle.literals.specs.Suited.{Suited, suited, plain_null}
-use Rattle.literals.specs.declared.Literal.{Literal}
-use Rattle.literals.specs.declared.Literal.TheVariants.{Null, Int, Text, Truth}
-use Rattle.text.specs.Utf8.{Utf8}
-use Rattle.text.specs.Machine.{is_utf8}
-use Rattle.text.proofs.Valid.{utf8_iff}
+use Prim.Native.Nat.{ℕ, zero, suc, ◌+◌}
+use Rattle.limits.specs.Limits.{max_depth}
+use Rattle.literals.specs.Literals.{Value, value_at, literal_of, text_type}
+use Rattle.literals.specs.Suited.{suited}
 use Rattle.kleene.specs.declared.Joining.{Joining}
 use Rattle.predicate.specs.Nodes.{count_of}
-use Rattle.predicate.specs.Predicates.{Predicate, constant, join, not, column, is_null, is_not_null, comparison, list, like, Read, values_at, node_at, node_predicate, then_not, pair_of, predicate_at, length_values}
-use Rattle.predicate.specs.Measures.{width, nodes, leaves, depth, listed, values_bytes, literal_bytes}
-use Rattle.predicate.specs.Checking.{type_in, patterned, after_node, check_literal, check_literals, check_behind, check_from, at_start, predicate_fault}
-use Rattle.predicate.specs.CheckingLaws.{Flippable, Columned, Stands, stands, type_in_schema, then_says}
+use Rattle.predicate.specs.Predicates.{Predicate, Read, values_at, node_at, node_predicate, then_not, pair_of, predicate_at, length_values}
+use Rattle.predicate.specs.Checking.{type_in, after_node, check_literal, check_literals, check_behind, check_from, at_start, predicate_fault}
+use Rattle.predicate.specs.CheckingLaws.{Columned, Stands, stands, then_says}
 use Rattle.predicate.proofs.CheckingLaws.{NodeSays, literal_passed, zero_passed, node_passed, fault_none}
 use Rattle.predicate.specs.declared.Column.{Column}
 use Rattle.predicate.specs.declared.Node.{Node}

@@ -1,9 +1,9 @@
 -- What follows when checking passes: the predicate that the words stand for fits the schema, and its measures are what checking
 -- has counted, within the limits. Assumes nothing.
-use Rattle.std.specs.Prelude.{◌≡◌, refl, Bool, true, not as negation, List, [], ◌∷◌, ◌++◌, length, get_or, eqb}
+use Rattle.std.specs.Prelude.{◌≡◌, refl, true, not as negation, List, [], ◌∷◌, ◌++◌, length, eqb}
 use Rattle.std.proofs.Common.{sym, ap, ◌∙◌, arith, length-take, length-drop, eq-eqb}
 use Rattle.std.proofs.Math.Bool.{false}
-use Prim.Native.Nat.{ℕ, zero, suc, ◌+◌, ◌*◌, ◌≤◌, ◌<◌}
+use Prim.Native.Nat.{ℕ, ◌+◌, ◌*◌, ◌≤◌, ◌<◌}
 use Rattle.limits.specs.Limits.{max_nodes, max_list_literals, max_literal_bytes, max_all_literal_bytes, max_depth}
 use Rattle.words.specs.Word.{range_of}
 use Rattle.words.specs.WordLaws.{length_word}
@@ -11,26 +11,19 @@ use Rattle.words.specs.Pools.{Inside}
 use Rattle.words.specs.Tests.{or_other}
 use Rattle.words.specs.declared.Range.{Range}
 use Rattle.literals.specs.Signed.{Fits64, signed_fits}
-use Rattle.literals.specs.Literals.{Value, null, int, text, truth, value_of, value_at, value_bytes, literal_of, type_of, length_of, plain, integer_type, text_type, truth_type}
+use Rattle.literals.specs.Literals.{Value, null, int, text, truth, value_of, value_bytes, type_of, length_of, plain, integer_type, text_type, truth_type}
 use Rattle.literals.specs.LiteralLaws.{Plain}
-use Rattle.literals.specs.Suited.{Suited, suited, plain_null}
+use Rattle.literals.specs.Suited.{Suited, plain_null}
 use Rattle.literals.specs.declared.Literal.{Literal}
 use Rattle.literals.specs.declared.Literal.TheVariants.{Null, Int, Text, Truth}
 use Rattle.text.specs.Utf8.{Utf8}
 use Rattle.text.specs.Machine.{is_utf8}
 use Rattle.text.proofs.Valid.{utf8_iff}
-use Rattle.kleene.specs.declared.Joining.{Joining}
-use Rattle.predicate.specs.Nodes.{count_of}
-use Rattle.predicate.specs.Predicates.{Predicate, constant, join, not, column, is_null, is_not_null, comparison, list, like, Read, values_at, node_at, node_predicate, then_not, pair_of, predicate_at, length_values}
+use Rattle.predicate.specs.Predicates.{Predicate, constant, join, not, column, is_null, is_not_null, comparison, list, like, Read}
 use Rattle.predicate.specs.Measures.{width, nodes, leaves, depth, listed, values_bytes, literal_bytes}
-use Rattle.predicate.specs.Checking.{type_in, patterned, after_node, check_literal, check_literals, check_behind, check_from, at_start, predicate_fault}
-use Rattle.predicate.specs.CheckingLaws.{Flippable, Columned, Stands, stands, type_in_schema, then_says}
-use Rattle.predicate.specs.declared.Column.{Column}
-use Rattle.predicate.specs.declared.Node.{Node}
-use Rattle.predicate.specs.declared.Node.TheVariants.{Constant, Join, Not, TruthColumn, IsNull, IsNotNull, Comparison, List as InList, Like}
+use Rattle.predicate.specs.Checking.{type_in, patterned}
+use Rattle.predicate.specs.CheckingLaws.{Flippable, type_in_schema}
 use Rattle.predicate.specs.declared.Progress.{Progress}
-use Rattle.predicate.specs.declared.Checked.{Checked}
-use Rattle.predicate.specs.declared.Checked.TheVariants.{Passed}
 
 -- ---- predicates that fit a schema
 

@@ -4,17 +4,15 @@ use Rattle.std.proofs.Math.Path.{refl}
 use Rattle.std.proofs.Common.{sym, ◌∙◌, arith}
 use Rattle.std.proofs.Math.Bool.{Bool, true, false, cond}
 use Rattle.std.proofs.Math.Logic.{inl, inr}
-use Prim.Native.Nat.{ℕ, zero, suc, ◌+◌, ◌-◌, ◌≤◌, ◌<◌}
-use Rattle.std.proofs.Math.Numerals.{sub-one}
+use Prim.Native.Nat.{ℕ, zero, suc, ◌+◌, ◌≤◌, ◌<◌}
 use Rattle.std.proofs.Math.ListN.{length, get_or-eq_default}
-use Rattle.std.proofs.Math.Dec.{eqb, leb, ltb, lit≤}
-use borrow.Author.Tests.{ltb-true, ltb-false, leb-true, leb-false, eqb-true, eqb-false, not-true, le-leb, lt-leb, eq-eqb, ne_eqb}
-use Rattle.limits.specs.Limits.{max_nodes, max_list_literals, max_literal_bytes, max_all_literal_bytes, max_depth, malformed, over_limit, misfit}
+use Rattle.std.proofs.Math.Dec.{eqb, ltb, lit≤}
+use borrow.Author.Tests.{ltb-true, ltb-false, eqb-true, eqb-false, not-true}
+use Rattle.limits.specs.Limits.{max_literal_bytes, max_all_literal_bytes, malformed, misfit}
 use Rattle.words.specs.Tests.{and_both, or_other}
 use Rattle.literals.specs.Literals.{length_of, plain, suits, literal_of, text_type, truth_type}
 use Rattle.predicate.specs.Nodes.{kind_of, operator_field, column_field, flips_of, first_field, count_of, zero_field, node_of}
-use Rattle.predicate.specs.Predicates.{node_at}
-use Rattle.predicate.specs.Checking.{first_fault, shape_of, unused_zero, formed, limited, type_in, flippable, columned, word_fault, literal_limited, patterned, literal_fault, missing, then_on, passes, after_node, after_literal, word_here, check_literal, check_literals, check_behind, node_fault, check_from, finish, at_start, predicate_fault}
+use Rattle.predicate.specs.Checking.{first_fault, shape_of, unused_zero, formed, type_in, flippable, columned, patterned, then_on, passes}
 use Rattle.predicate.specs.declared.Column.{Column}
 use Rattle.predicate.specs.declared.Node.{Node}
 use Rattle.predicate.specs.declared.Node.TheVariants.{Constant, Join, Not, TruthColumn, IsNull, IsNotNull, Comparison, List as InList, Like}

@@ -1,22 +1,16 @@
 -- A list's table: what it folds to, and its words and pool, as a writer makes them: the joins first, then the open members in order.
 -- Assumes nothing.
-use Rattle.std.specs.Prelude.{◌≡◌, Bool, true, false, cond, ◌&&◌, ◌⊎◌, ℕ, zero, suc, ◌+◌, length, replicate}
-use Rattle.std.proofs.Math.Path.{refl}
-use Rattle.std.proofs.Common.{sym, ◌∙◌, ap, inl, inr, add_assoc, length-append}
+use Rattle.std.specs.Prelude.{◌≡◌, Bool, true, cond, ◌&&◌, ℕ}
+use Rattle.std.proofs.Common.{sym, ◌∙◌, ap, inl, inr}
 use mathlib.Core.List.{List, [], ◌∷◌, ◌++◌, append_assoc, append-nil}
 use Rattle.kleene.specs.declared.Joining.{Joining}
 use Rattle.kleene.specs.declared.Joining.TheVariants.{And, Or}
 use Rattle.literals.specs.Literals.{Value}
 use Rattle.predicate.specs.declared.Column.{Column}
-use Rattle.statistics.specs.declared.Statistic.{Statistic}
-use Rattle.table.specs.declared.Known.{Known}
-use Rattle.table.specs.declared.Known.TheVariants.{False, True, Open}
-use Rattle.table.specs.Tables.{Table, always, both, known, joined}
-use Rattle.table.specs.Encoding.{joining_kind, table_word, pool_of, table_words}
-use Rattle.table.specs.Constants.{Solid, solid_open, form_solid}
-use Rattle.predicate.specs.Checking.{type_in}
-use Rattle.table.specs.Comparisons.{Turned, asks, stays, turned, turned_form}
-use Rattle.table.specs.Rewriting.{comparison_table, list_operator, list_joining, members_table, nested_table}
+use Rattle.table.specs.declared.Known.TheVariants.{Open}
+use Rattle.table.specs.Tables.{Table, always, known, joined}
+use Rattle.table.specs.Constants.{Solid, solid_open}
+use Rattle.table.specs.Rewriting.{list_joining, nested_table}
 use Rattle.table.specs.Nests.{AllSolid, Member, Members, all_open, and_all, is_open, joined_all, list_fold, nest, nest_snoc, nest_solid, or_true, solid_snoc, member_table, member_tables, member_is, members_are, members_joined}
 
 or_all : (t : Table) (ts us : List Table) → Solid t → AllSolid ts → Members us

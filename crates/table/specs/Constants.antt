@@ -8,13 +8,10 @@ use Rattle.kleene.specs.declared.Joining.{Joining}
 use Rattle.kleene.specs.declared.Joining.TheVariants.{And, Or}
 use Rattle.literals.specs.Literals.{Value}
 use Rattle.predicate.specs.declared.Column.{Column}
-use Rattle.predicate.specs.Predicates.{Predicate}
-use Rattle.predicate.specs.Checking.{type_in}
 use Rattle.table.specs.declared.Known.TheVariants.{Open}
 use Rattle.table.specs.Tables.{Table, always, both, against, positive, differ, holds, negation, known, joined}
-use Rattle.table.specs.Comparisons.{Turned, asks, stays, turned, comparison_form, turned_form, bounded_form, pattern_prefix, pattern_upper}
-use Rattle.table.specs.Rewriting.{list_operator, list_joining, comparison_table, rewritten}
-use Rattle.table.specs.Induction.{distinct_by, not_distinct_by, Kept}
+use Rattle.table.specs.Comparisons.{Turned, asks, stays, comparison_form, turned_form, bounded_form}
+use Rattle.table.specs.Induction.{distinct_by, not_distinct_by}
 
 -- no constant stands anywhere in it
 abbrev pub Solid : Table → Type 0

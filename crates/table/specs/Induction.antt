@@ -1,29 +1,22 @@
 -- Induction over rewriting: what the table and the statistics of every leaf have, and a join keeps, those of every predicate have.
 -- Assumes nothing.
-use Rattle.std.specs.Prelude.{◌≡◌, refl, Bool, cond, not as negation, ◌||◌, length, eqb, leb, ltb, ℤ}
-use Rattle.std.proofs.Math.Bool.{true, false}
-use mathlib.Core.List.{List, [], ◌∷◌, ◌++◌, append_assoc, append-nil}
-use Prim.Native.Nat.{ℕ, zero, suc}
-use Rattle.operators.specs.Operators.{swap_of}
+use Rattle.std.specs.Prelude.{Bool}
+use Rattle.std.proofs.Math.Bool.{false}
+use mathlib.Core.List.{List, [], ◌∷◌, ◌++◌}
+use Prim.Native.Nat.{ℕ}
 use Rattle.operators.specs.declared.Operator.{Operator}
-use Rattle.operators.specs.declared.Operator.TheVariants.{Equal, NotEqual, Below, AtMost, Above, AtLeast, Distinct, NotDistinct}
-use Rattle.kleene.specs.declared.Truth.{Truth}
-use Rattle.kleene.specs.declared.Truth.TheVariants.{False, Unknown, True}
 use Rattle.kleene.specs.declared.Joining.{Joining}
 use Rattle.kleene.specs.declared.Joining.TheVariants.{Or}
-use Rattle.literals.specs.Signed.{negated}
-use Rattle.literals.specs.Literals.{Value, null, int, text, truth, integer_type, truth_type}
-use Rattle.literals.specs.declared.Negated.{Negated}
-use Rattle.literals.specs.declared.Negated.TheVariants.{To, Unhandled}
+use Rattle.literals.specs.Literals.{Value, null, int, text, truth}
 use Rattle.predicate.specs.declared.Column.{Column}
-use Rattle.predicate.specs.Predicates.{Predicate, constant, join, not, column, is_null, is_not_null, comparison, list, like}
+use Rattle.predicate.specs.Predicates.{Predicate, join, not, column, is_null, is_not_null, comparison, list, like}
 use Rattle.statistics.specs.declared.Statistic.{Statistic}
 use Rattle.statistics.specs.declared.Statistic.TheVariants.{Blanks, Rows}
 use Rattle.table.specs.declared.Folded.{Folded}
 use Rattle.table.specs.declared.Folded.TheVariants.{Fixed, Left, Right, Both}
-use Rattle.table.specs.Tables.{Table, always, both, known, folds, folded, joined, unhandled}
-use Rattle.table.specs.Comparisons.{Turned, asks, stays, minus_int, minus, minuses, negated_truth, flip_once, truth_flips, no_flips, flipped, unturned, turned, equal_form, unequal_form, has_blanks, has_values, wrapped, distinct_form, not_distinct_form, like_table, like_lists}
-use Rattle.table.specs.Rewriting.{constant_table, column_table, not_column_table, column_lists, not_table, not_lists, list_operator, list_joining, comparison_table, comparison_statistics, members_table, members_lists, nested_table, rewritten, lists}
+use Rattle.table.specs.Tables.{Table, always, both, known, folds, folded, joined}
+use Rattle.table.specs.Comparisons.{Turned, asks, stays, equal_form, unequal_form, has_blanks, has_values, wrapped, distinct_form, not_distinct_form, like_table, like_lists}
+use Rattle.table.specs.Rewriting.{column_table, not_column_table, column_lists, list_operator, list_joining, comparison_table, comparison_statistics}
 
 -- ---- parts
 

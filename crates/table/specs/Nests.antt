@@ -16,7 +16,7 @@ use Rattle.table.specs.Encoding.{joining_kind, table_word, pool_of, table_words}
 use Rattle.table.specs.Constants.{Solid, solid_open, form_solid}
 use Rattle.predicate.specs.Checking.{type_in}
 use Rattle.table.specs.Comparisons.{Turned, asks, stays, turned, turned_form}
-use Rattle.table.specs.Rewriting.{comparison_table, list_operator, list_joining, members_table, nested_table}
+use Rattle.table.specs.Rewriting.{comparison_table, list_operator, list_joining, members_table}
 
 -- ---- joined from the left
 

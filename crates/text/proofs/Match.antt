@@ -1,11 +1,10 @@
 -- Which texts match a LIKE pattern, by characters; a match begins with the pattern's prefix, in characters and in bytes. Assumes nothing.
-use Rattle.std.specs.Prelude.{◌≡◌, refl, Bool, true, false, cond, ◌&&◌, ◌||◌, ℕ, ◌≤◌, eqb}
-use Rattle.std.proofs.Common.{sym, ◌∙◌, ap, inl, arith, eqb-true, ne_eqb}
-use Rattle.std.proofs.lemmas.Bool.{false≢true}
-use mathlib.Core.List.{List, [], ◌∷◌, ◌++◌, append-nil, cons-ne-nil}
-use Rattle.text.specs.Utf8.{Text, Utf8, encode, bytes_of, bytes_append, Conts, Shape, shape, short, long, no_bytes}
+use Rattle.std.specs.Prelude.{◌≡◌, true, false, ℕ}
+use Rattle.std.proofs.Common.{sym, ◌∙◌, ap}
+use mathlib.Core.List.{List, [], append-nil}
+use Rattle.text.specs.Utf8.{Utf8, bytes_of, bytes_append, no_bytes}
 use Rattle.text.specs.Chars.{chars_of, bytes_chars}
-use Rattle.text.specs.Pattern.{percent, underscore, backslash, ends_at, opens_at, kept, prefix_of, rest_of}
+use Rattle.text.specs.Pattern.{prefix_of, rest_of}
 use Rattle.text.specs.Match.{Matches, bytes_none, like, like_text, matches, prefix_bytes, rest_bytes, text_prefix}
 
 pub like_begins : (p s : List ℕ) → like p false s ≡ true → Matches (prefix_of false (bytes_of p)) (rest_of false (bytes_of p)) (bytes_of s)

@@ -1,14 +1,14 @@
 -- The upper bound of a LIKE pattern, if it has one, by document 01's rule for one character; a match lies between prefix and upper bound.
 -- Assumes nothing.
-use Rattle.std.specs.Prelude.{◌≡◌, refl, Bool, true, false, cond, List, [], ◌∷◌, ℕ, ◌+◌, ◌≤◌, length}
+use Rattle.std.specs.Prelude.{◌≡◌, refl, true, false, List, [], ◌∷◌, ℕ, ◌+◌, ◌≤◌, length}
 use Rattle.std.proofs.Common.{subst, arith}
-use Rattle.std.proofs.Math.Option.{Option, some, some-injective}
+use Rattle.std.proofs.Math.Option.{some, some-injective}
 use Rattle.words.specs.Bytes.{up_to, up_to_refl, front_up_to}
 use Rattle.text.specs.Utf8.{Utf8}
-use Rattle.text.specs.Increment.{Raises, raised}
+use Rattle.text.specs.Increment.{Raises}
 use Rattle.text.proofs.Increment.{raises_one}
-use Rattle.text.specs.Chars.{incremented, incremented_bounds, incremented_utf8, incremented_room}
-use Rattle.text.specs.Pattern.{ends_at, opens_at, kept, last, prefix_of, rest_of}
+use Rattle.text.specs.Chars.{incremented_bounds, incremented_utf8, incremented_room}
+use Rattle.text.specs.Pattern.{prefix_of, rest_of}
 use Rattle.text.specs.Match.{like_text}
 use Rattle.text.proofs.Match.{prefix_utf8, text_begins, text_whole}
 use Rattle.text.specs.Upper.{increment_of, pick, prefix_length, rule, upper_of}

@@ -2,9 +2,9 @@
 use Rattle.std.specs.Prelude.{◌≡◌, refl, Bool, true, false, cond, ◌&&◌, ◌||◌, ℕ, ◌≤◌, eqb}
 use Rattle.std.proofs.Common.{sym, ◌∙◌, ap, inl, arith, eqb-true, ne_eqb}
 use Rattle.std.proofs.lemmas.Bool.{false≢true}
-use mathlib.Core.List.{List, [], ◌∷◌, ◌++◌, append-nil, cons-ne-nil}
-use Rattle.text.specs.Utf8.{Text, Utf8, encode, bytes_of, bytes_append, Conts, Shape, shape, short, long, no_bytes}
-use Rattle.text.specs.Chars.{chars_of, bytes_chars}
+use mathlib.Core.List.{List, [], ◌∷◌, ◌++◌, cons-ne-nil}
+use Rattle.text.specs.Utf8.{Text, encode, bytes_of, Conts, Shape, shape, short, long}
+use Rattle.text.specs.Chars.{chars_of}
 use Rattle.text.specs.Pattern.{percent, underscore, backslash, ends_at, opens_at, kept, prefix_of, rest_of}
 
 abbrev pub empty : List ℕ → Bool

@@ -1,14 +1,11 @@
 -- The upper bound of a LIKE pattern, if it has one, by document 01's rule for one character; a match lies between prefix and upper bound.
 -- Assumes nothing.
-use Rattle.std.specs.Prelude.{◌≡◌, refl, Bool, true, false, cond, List, [], ◌∷◌, ℕ, ◌+◌, ◌≤◌, length}
-use Rattle.std.proofs.Common.{subst, arith}
-use Rattle.std.proofs.Math.Option.{Option, some, some-injective}
-use Rattle.words.specs.Bytes.{up_to, up_to_refl, front_up_to}
-use Rattle.text.specs.Utf8.{Utf8}
-use Rattle.text.specs.Increment.{Raises, raised}
-use Rattle.text.specs.Chars.{incremented, incremented_bounds, incremented_utf8, incremented_room}
+use Rattle.std.specs.Prelude.{Bool, true, false, cond, List, [], ◌∷◌, ℕ, ◌+◌, ◌≤◌, length}
+use Rattle.std.proofs.Common.{arith}
+use Rattle.std.proofs.Math.Option.{Option, some}
+use Rattle.text.specs.Increment.{raised}
+use Rattle.text.specs.Chars.{incremented}
 use Rattle.text.specs.Pattern.{ends_at, opens_at, kept, last, prefix_of, rest_of}
-use Rattle.text.specs.Match.{like_text}
 
 -- document 01's rule for one character; what follows asks only that it raises
 abbrev pub rule : ℕ → Option ℕ

@@ -1,5 +1,4 @@
 -- Each arm is the operation that it names. Assumes nothing.
-use borrow.Author.Rules.{rules}
 use Rattle.kleene.proofs.join.Goals as goal
 
 pub returns-in-And : goal.returns-in-And

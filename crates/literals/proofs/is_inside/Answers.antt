@@ -1,5 +1,4 @@
 -- By the offset and the length read. Assumes nothing.
-use borrow.Author.Rules.{rules}
 use Rattle.literals.proofs.is_inside.Goals as goal
 
 pub returns : goal.returns

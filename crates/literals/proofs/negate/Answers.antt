@@ -1,5 +1,4 @@
 -- Past the test the integer is not the least, and 0 - x is -x. Assumes nothing.
-use borrow.Author.Rules.{sfits_of}
 use mathlib.Core.Path.{◌≡◌, sym, ap, ◌∙◌}
 use lib.IntN.{ℤ, pos, neg_ℤ, ◌-ℤ◌, +ℤ_idl}
 use mir.Syntax.{w64}

@@ -1,5 +1,4 @@
 -- Both tests decide. Assumes nothing.
-use borrow.Author.Rules.{rules}
 use borrow.Author.Tests.{eq-eqb, ne_eqb}
 use Rattle.text.proofs.ends.Goals as goal
 

@@ -1,10 +1,8 @@
 -- The bytes are UTF-8 where the machine, from its present state, accepts what is left of them from i on. Assumes nothing.
-use borrow.Author.Rules.{rules}
-use mathlib.Core.Path.{◌≡◌, refl, sym, ◌∙◌}
+use mathlib.Core.Path.{◌≡◌}
 use Prim.Native.Nat.{◌≤◌, ◌-◌}
 use lib.ListN.{length, drop}
 use Rattle.text.specs.Machine.{is_utf8, runs}
-use Rattle.text.proofs.Laws.{runs_next, runs_end}
 use Rattle.text.proofs.is_utf8.Given as goal
 
 abbrev pub invariant-loop-i : goal.invariant-loop-i

@@ -1,5 +1,4 @@
 -- Each test that failed and the one that held pick the case. Assumes nothing.
-use borrow.Author.Rules.{rules}
 use borrow.Author.Tests.{eq-eqb, ne_eqb, lt-ltb, le-ltb}
 use Rattle.text.specs.Machine.{lead_of}
 use Rattle.text.proofs.lead.Goals as goal

@@ -1,5 +1,4 @@
 -- The flag decides, then the byte. Assumes nothing.
-use borrow.Author.Rules.{rules}
 use Rattle.text.proofs.opens.Goals as goal
 
 pub returns-else-escaped : goal.returns-else-escaped

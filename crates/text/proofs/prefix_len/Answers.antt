@@ -1,12 +1,8 @@
 -- The prefix is n bytes longer than that of what is left of the pattern from i on. Assumes nothing.
 use borrow.Author.Rules.{rules}
-use mathlib.Core.Path.{◌≡◌, sym, ◌∙◌}
-use mathlib.Core.Bool.{false}
-use Prim.Native.Nat.{◌+◌, ◌≤◌, ◌-◌}
+use mathlib.Core.Path.{sym, ◌∙◌}
 use native.Mathlib.Omega.{arith}
 use native.Mathlib.Nat.{zero-add}
-use lib.ListN.{length, drop}
-use Rattle.text.specs.Pattern.{prefix_of, last}
 use Rattle.text.proofs.Laws.{prefix_ends, prefix_opens, prefix_keeps, prefix_last}
 use Rattle.text.proofs.prefix_len.Goals as goal
 

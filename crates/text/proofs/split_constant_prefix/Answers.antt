@@ -1,10 +1,7 @@
 -- The pattern has the rest that what is left of it from i on has. Assumes nothing.
 use borrow.Author.Rules.{rules}
-use mathlib.Core.Path.{◌≡◌, sym, ◌∙◌}
-use mathlib.Core.Bool.{false}
-use Prim.Native.Nat.{◌≤◌, ◌-◌}
-use lib.ListN.{length, drop, drop_of_length-le}
-use Rattle.text.specs.Pattern.{rest_of}
+use mathlib.Core.Path.{sym, ◌∙◌}
+use lib.ListN.{drop_of_length-le}
 use Rattle.text.proofs.Laws.{part_rest, rest_ends, rest_next, rest_end}
 use Rattle.text.proofs.split_constant_prefix.Goals as goal
 

@@ -1,13 +1,9 @@
 -- What is still to be stored, from n on, is the prefix of what is left of the pattern from i on. Assumes nothing.
 use borrow.Author.Rules.{rules}
-use mathlib.Core.Path.{◌≡◌, sym, ◌∙◌}
-use mathlib.Core.Bool.{false}
-use Prim.Native.Nat.{◌+◌, ◌≤◌, ◌-◌}
+use mathlib.Core.Path.{sym, ◌∙◌}
 use native.Mathlib.Omega.{arith}
 use native.Mathlib.Numerals.{add-one}
-use lib.ListN.{length, drop, length-set}
-use lib.Seq.{sets}
-use Rattle.text.specs.Pattern.{prefix_of}
+use lib.ListN.{length-set}
 use Rattle.text.proofs.Laws.{prefix_ends, prefix_opens, prefix_keeps, prefix_last}
 use Rattle.text.proofs.write_prefix.Goals as goal
 

@@ -1,5 +1,4 @@
 -- Past the pool nothing is left, else at most the rest. Assumes nothing.
-use borrow.Author.Rules.{rules}
 use Rattle.words.proofs.Cuts.{cut_none, cut_rest, cut_whole}
 use Rattle.words.proofs.clip.Goals as goal
 

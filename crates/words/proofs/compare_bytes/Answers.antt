@@ -1,9 +1,6 @@
 -- Both strings compare as what is left of them from i on. Assumes nothing.
 use borrow.Author.Rules.{rules}
-use mathlib.Core.Path.{◌≡◌, sym, ◌∙◌}
-use Prim.Native.Nat.{◌≤◌, ◌-◌}
-use lib.ListN.{length, drop}
-use Rattle.words.specs.Bytes.{byte_order}
+use mathlib.Core.Path.{sym, ◌∙◌}
 use Rattle.words.proofs.Laws.{less_at, greater_at, next_at, longer_at, shorter_at, equal_at}
 use Rattle.words.proofs.compare_bytes.Goals as goal
 

@@ -1,10 +1,8 @@
 -- Both strings compare as what is left of them from i on. Assumes nothing.
-use borrow.Author.Rules.{rules}
-use mathlib.Core.Path.{◌≡◌, sym, ◌∙◌}
+use mathlib.Core.Path.{◌≡◌}
 use Prim.Native.Nat.{◌≤◌, ◌-◌}
 use lib.ListN.{length, drop}
 use Rattle.words.specs.Bytes.{byte_order}
-use Rattle.words.proofs.Laws.{less_at, greater_at, next_at, longer_at, shorter_at, equal_at}
 use Rattle.words.proofs.compare_bytes.Given as goal
 
 abbrev pub invariant-loop-i : goal.invariant-loop-i

@@ -1,12 +1,8 @@
 -- After j turns the first j bytes of the part are stored. Assumes nothing.
-use borrow.Author.Rules.{rules}
-use mathlib.Core.Path.{◌≡◌, refl, ◌∙◌}
-use native.Mathlib.Omega.{arith}
-use native.Mathlib.Nat.{le_antisymm}
+use mathlib.Core.Path.{◌≡◌}
 use Prim.Native.Nat.{◌≤◌, ◌-◌}
-use lib.ListN.{length, take, drop, length-set}
+use lib.ListN.{length, take, drop}
 use lib.Seq.{sets}
-use Rattle.words.proofs.Laws.{copy_more}
 use Rattle.words.proofs.copy_part.Given as goal
 
 abbrev pub invariant-loop-j : goal.invariant-loop-j

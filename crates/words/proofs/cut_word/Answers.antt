@@ -1,5 +1,4 @@
 -- Eight bytes, each inside or past the end. Assumes nothing.
-use borrow.Author.Rules.{rules}
 use mathlib.Core.Path.{◌∙◌}
 use native.Mathlib.Nat.{add-zero}
 use Rattle.words.specs.Word.{word_at}

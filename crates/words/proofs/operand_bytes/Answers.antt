@@ -1,5 +1,4 @@
 -- Each arm hands on what it was given of its own pool. Assumes nothing.
-use borrow.Author.Rules.{rules}
 use Rattle.words.proofs.operand_bytes.Goals as goal
 
 pub range_bytes-requires : goal.range_bytes-requires

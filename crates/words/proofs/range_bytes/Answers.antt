@@ -1,5 +1,4 @@
 -- What a part from at to at + len holds. Assumes nothing.
-use borrow.Author.Rules.{rules}
 use native.Mathlib.Nat.{add-sub_cancel_left}
 use Rattle.words.proofs.range_bytes.Goals as goal
 

@@ -1,5 +1,4 @@
 -- By the law of each case: a word of the list, or past its end. Assumes nothing.
-use borrow.Author.Rules.{rules}
 use mathlib.Core.Path.{sym, ◌∙◌}
 use Rattle.words.specs.WordLaws.{words_at, words_past}
 use Rattle.words.proofs.word_or_zero.Goals as goal

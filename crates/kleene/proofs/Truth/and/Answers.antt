@@ -1,5 +1,4 @@
 -- The table's entry at two places is what AND means. Assumes nothing.
-use borrow.Author.Rules.{rules}
 use Rattle.kleene.specs.Tables.{and_rule}
 use Rattle.kleene.proofs.Truth.and.Goals as goal
 

@@ -1,5 +1,4 @@
 -- The row's entry at a place is what NOT means. Assumes nothing.
-use borrow.Author.Rules.{rules}
 use Rattle.kleene.specs.Tables.{not_rule}
 use Rattle.kleene.proofs.Truth.not.Goals as goal
 

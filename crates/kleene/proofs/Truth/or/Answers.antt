@@ -1,5 +1,4 @@
 -- The table's entry at two places is what OR means. Assumes nothing.
-use borrow.Author.Rules.{rules}
 use Rattle.kleene.specs.Tables.{or_rule}
 use Rattle.kleene.proofs.Truth.or.Goals as goal
 

@@ -1,5 +1,4 @@
 -- Each arm asks for the order that it matched. Assumes nothing.
-use borrow.Author.Rules.{rules}
 use Rattle.operators.proofs.Operator.holds.Goals as goal
 
 pub returns-in-Less : goal.returns-in-Less
