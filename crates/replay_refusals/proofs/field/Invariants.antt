@@ -1,4 +1,4 @@
--- The place stays within the line.
+-- The place stays within the line. Assumes nothing.
 use Rattle.std.proofs.Common.{◌≤◌, length}
 use Rattle.replay_refusals.proofs.field.Given as goal
 

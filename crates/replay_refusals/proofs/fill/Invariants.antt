@@ -1,4 +1,4 @@
--- Both places stay within their slices, and a run is stored only where it has room.
+-- Both places stay within their slices, and a run is stored only where it has room. Assumes nothing.
 use Rattle.std.proofs.Common.{◌≤◌, ◌-◌, length}
 use Rattle.replay_refusals.proofs.fill.Given as goal
 

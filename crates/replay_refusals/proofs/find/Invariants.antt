@@ -1,4 +1,4 @@
--- The place stays between its start and the end.
+-- The place stays between its start and the end. Assumes nothing.
 use Rattle.std.proofs.Common.{◌≤◌, ◌-◌, length}
 use Rattle.replay_refusals.proofs.find.Given as goal
 

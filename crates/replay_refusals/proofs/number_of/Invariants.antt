@@ -1,4 +1,4 @@
--- The place stays within the field; the number is tested before it grows.
+-- The place stays within the field; the number is tested before it grows. Assumes nothing.
 use Rattle.std.proofs.Common.{◌≤◌, ◌-◌, length}
 use Rattle.replay_refusals.proofs.number_of.Given as goal
 

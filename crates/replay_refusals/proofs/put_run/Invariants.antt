@@ -1,4 +1,4 @@
--- The buffer keeps its length.
+-- The buffer keeps its length. Assumes nothing.
 use Rattle.std.proofs.Common.{◌≤◌, ◌-◌}
 use Rattle.replay_refusals.proofs.put_run.Given as goal
 

@@ -1,4 +1,4 @@
--- Five numbers, each at its index.
+-- Five numbers, each at its index. Assumes nothing.
 use Rattle.std.proofs.Common.{◌≤◌, ◌-◌}
 use Rattle.replay_refusals.proofs.read_numbers.Given as goal
 

@@ -1,4 +1,4 @@
--- The turns fall.
+-- The turns fall. Assumes nothing.
 use Rattle.replay_refusals.proofs.replay_file.Given as goal
 
 abbrev pub decreases-loop-turns : goal.decreases-loop-turns

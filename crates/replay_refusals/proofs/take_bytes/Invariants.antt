@@ -1,4 +1,4 @@
--- The place stays within the bytes.
+-- The place stays within the bytes. Assumes nothing.
 use Rattle.std.proofs.Common.{◌≤◌, ◌-◌, length}
 use Rattle.replay_refusals.proofs.take_bytes.Given as goal
 
