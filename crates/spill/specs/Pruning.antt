@@ -27,7 +27,7 @@ use Rattle.cells.specs.Grids.{list_of}
 use Rattle.evaluating.specs.Rows.{row_cells}
 use Rattle.evaluating.specs.FromChecks.{checked_says}
 use Rattle.flagging.specs.Flags.{width, Fits, flag_for, flags_for, length_flags, next_row}
-use Rattle.spill.specs.Prune.{Call, list_in, table_in, grid_fine, prune_fault, flag_in, flags_from, flags, pruning}
+use Rattle.spill.specs.Prune.{Call, list_in, table_in, grid_fine, prune_fault, flag_in, flags_from, pruning}
 use Rattle.spill.specs.Done.{Flagged}
 
 -- ---- a container's row and its cells

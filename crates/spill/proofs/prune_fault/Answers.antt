@@ -1,5 +1,4 @@
 -- The first test that fails decides. Assumes nothing.
-use borrow.Author.Rules.{rules}
 use native.Mathlib.Omega.{arith}
 use mathlib.Core.Path.{sym, ◌∙◌}
 use borrow.Author.Tests.{le-leb, lt-leb}
@@ -38,8 +37,8 @@ pub grid_fine-requires : goal.grid_fine-requires
 grid_fine-requires c =
     let a = c.args in
     let checked : Checked a.table.now a.pool.now a.list.now a.guarantees.now =
-        checked_says a.schema.now a.table.now a.pool.now a.list.now a.guarantees.now (λ k. (c.type_inv.list k).fits)
-        (sym c.checked_table.ensures ∙ c.if-not-checked_table.false) in
+    checked_says a.schema.now a.table.now a.pool.now a.list.now a.guarantees.now (λ k. (c.type_inv.list k).fits)
+    (sym c.checked_table.ensures ∙ c.if-not-checked_table.false) in
     (c.if-containers-gt-MAX_CONTAINERS.false, checked.statistics)
 
 pub returns-then-not-grid_fine : goal.returns-then-not-grid_fine
@@ -60,8 +59,8 @@ pub answers_fine-requires : goal.answers_fine-requires
 answers_fine-requires c =
     let a = c.args in
     let checked : Checked a.table.now a.pool.now a.list.now a.guarantees.now =
-        checked_says a.schema.now a.table.now a.pool.now a.list.now a.guarantees.now (λ k. (c.type_inv.list k).fits)
-        (sym c.checked_table.ensures ∙ c.if-not-checked_table.false) in
+    checked_says a.schema.now a.table.now a.pool.now a.list.now a.guarantees.now (λ k. (c.type_inv.list k).fits)
+    (sym c.checked_table.ensures ∙ c.if-not-checked_table.false) in
     let h = checked.guarantees in
     (c.if-containers-gt-MAX_CONTAINERS.false, omega arith)
 

@@ -1,5 +1,4 @@
 -- A refusal writes nothing; else every container's flag is written. Assumes nothing.
-use borrow.Author.Rules.{rules}
 use mathlib.Core.Path.{refl, sym, ◌∙◌}
 use Rattle.spill.specs.Pruning.{passed, fits, flagged_refused, flagged_done}
 use Rattle.spill.proofs.spill_prune.Goals as goal

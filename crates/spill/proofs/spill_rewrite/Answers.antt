@@ -1,5 +1,4 @@
 -- A refusal writes nothing; else the four outputs are written. Assumes nothing.
-use borrow.Author.Rules.{rules}
 use mathlib.Core.Path.{sym, ◌∙◌}
 use Rattle.spill.specs.Rewriting.{buffers_of, rewrote_refused, rewrote_done}
 use Rattle.spill.proofs.spill_rewrite.Goals as goal
