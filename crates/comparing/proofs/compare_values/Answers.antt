@@ -1,7 +1,7 @@
 -- Values of one type by its order, others apart. Assumes nothing.
 use mathlib.Core.Path.{ap, ◌∙◌}
 use mathlib.Core.Option.{some}
-use borrow.Author.Rules.{sfits_of}
+use borrow.Author.Rules.{rules, sfits_of}
 use mir.Syntax.{w64}
 use mir.ValLaws.{to_z-of_z}
 use Rattle.comparing.specs.Comparing.{int_order_lem, text_order}
@@ -19,7 +19,7 @@ pub returns-in-Int-literal : goal.returns-in-Int-literal
 returns-in-Int-literal c =
     rw (c.in-Int.is, c.in-Int-literal.is)
     (ap some (c.compare_ints.ensures
-    ∙ rw (to_z-of_z w64 c.in-Int.a (sfits_of c.in-Int.known_told-1-own.given.0.1), to_z-of_z w64 c.in-Int-literal.b (sfits_of c.in-Int-literal.known_told-in-Int-1-own.given.0.1)) (int_order_lem _ _)))
+    ∙ rw (to_z-of_z w64 c.in-Int.a (sfits_of (search rules)), to_z-of_z w64 c.in-Int-literal.b (sfits_of (search rules))) (int_order_lem _ _)))
 
 pub returns-in-Text-literal : goal.returns-in-Text-literal
 returns-in-Text-literal c =
