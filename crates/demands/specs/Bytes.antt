@@ -200,7 +200,7 @@ fronted n front old new e h d =
 
 -- ---- rewriting
 
-abbrev buffers_of : Outcome → Buffers → Buffers → ℕ → List Lent
+abbrev pub buffers_of : Outcome → Buffers → Buffers → ℕ → List Lent
 buffers_of o old new r =
     lent (table_bytes r) (table_out o) old.table new.table
     ∷ lent (pool_bytes r) (pool_out o) old.pool new.pool
@@ -232,7 +232,7 @@ rewrite_most a =
     (fault_most _ (predicate_fault_lem a.schema a.pool (words_of a.predicate))))
 
 -- the answer word of a refusal
-refused_by : (n : ℕ) (old new : Buffers) (r : ℕ) → n ≤ misfit → Rewrote (refuses n) old new r
+pub refused_by : (n : ℕ) (old new : Buffers) (r : ℕ) → n ≤ misfit → Rewrote (refuses n) old new r
     → (refusal_in r ≡ n) × Each Untouched (buffers_of (refuses n) old new r)
 refused_by n old new r h d =
     let vs : List ℕ = n ∷ 0 ∷ 0 ∷ 0 ∷ 0 ∷ 0 ∷ [] in
@@ -242,7 +242,7 @@ refused_by n old new r h d =
 
 -- the answer word of outputs that keep their bounds
 module _ (t p s g : List ℕ) (i j k : ℕ) (old new : Buffers) (r : ℕ) where
-  done_by : length t ≡ 8 * i → length s ≡ 8 * j → length g ≡ 8 * k → i < 2 ^ 16 → length p < 2 ^ 16 → j < 2 ^ 8 → k < 2 ^ 8
+  pub done_by : length t ≡ 8 * i → length s ≡ 8 * j → length g ≡ 8 * k → i < 2 ^ 16 → length p < 2 ^ 16 → j < 2 ^ 8 → k < 2 ^ 8
       → length t ≤ length old.table → length p ≤ length old.pool → length s ≤ length old.statistics → length g ≤ length old.guarantees
       → Rewrote (writes t p s g) old new r → (refusal_in r ≡ 0) × Each Fronted (buffers_of (writes t p s g) old new r)
   done_by et es eg hi hp hj hk rt rp rs rg d =
@@ -262,69 +262,13 @@ module _ (t p s g : List ℕ) (i j k : ℕ) (old new : Buffers) (r : ℕ) where
         ),
       )
 
-refused_outcome : (a : Asked) (n : ℕ) → fault_of a ≡ suc n → outcome_of a ≡ refuses (suc n)
+pub refused_outcome : (a : Asked) (n : ℕ) → fault_of a ≡ suc n → outcome_of a ≡ refuses (suc n)
 unfolding rewriting
 refused_outcome a n e = rw e
 
 pub accepted_outcome : (a : Asked) → fault_of a ≡ 0 → outcome_of a ≡ outputs a.limit a.schema (asked_for a)
 unfolding rewriting
 accepted_outcome a e = rw e
-
-accepted_by : (c : RewriteCall) → fault_of c.asked ≡ 0 → (refusal_in c.answer ≡ 0) × Each Fronted (rewrite_buffers c)
-accepted_by c e =
-    let a : Asked = c.asked in
-    let k = taken a.schema a.predicate a.pool a.limit a.rooms e in
-    let b = call_bounded a.schema a.predicate a.pool a.limit a.rooms e in
-    let t : Table = rewritten a.limit a.schema (asked_for a) in
-    let list : List Statistic = statistics a.limit a.schema (asked_for a) in
-    let gs : List Guarantee = guarantees 0 (asked_for a) in
-    let lt = length_bytes (table_words list 0 t) in
-    let ls = length_bytes (statistic_words list) in
-    let lg = length_bytes (guarantee_words gs) in
-    let ns = length_statistics list in
-    let ng = length_guarantees gs in
-    let rt : a.rooms.table ≡ length c.old.table = ap (λ (r : Rooms). r.table) c.rooms in
-    let rp : a.rooms.pool ≡ length c.old.pool = ap (λ (r : Rooms). r.pool) c.rooms in
-    let rs : a.rooms.statistics ≡ length c.old.statistics = ap (λ (r : Rooms). r.statistics) c.rooms in
-    let rg : a.rooms.guarantees ≡ length c.old.guarantees = ap (λ (r : Rooms). r.guarantees) c.rooms in
-    let bt = b.table in
-    let bp = b.pool in
-    let bs = b.statistics in
-    let bg = b.guarantees in
-    let kt = k.table in
-    let kp = k.table_pool in
-    let ks = k.statistics in
-    let kg = k.guarantees in
-    subst (λ o. Rewrote o c.old c.new c.answer → (refusal_in c.answer ≡ 0) × Each Fronted (buffers_of o c.old c.new c.answer))
-    (sym (accepted_outcome a e))
-    (done_by (bytes_of (table_words list 0 t)) (pool_of t) (bytes_of (statistic_words list)) (bytes_of (guarantee_words gs)) (length (table_words list 0 t)) (length (statistic_words list)) (length (guarantee_words gs)) c.old c.new c.answer
-    lt ls lg (omega arith) (omega arith) (omega arith) (omega arith) (omega arith) (omega arith) (omega arith) (omega arith))
-    c.contract
-
-refused_call : (c : RewriteCall) (n : ℕ) → fault_of c.asked ≡ suc n → (refusal_in c.answer ≡ suc n) × Each Untouched (rewrite_buffers c)
-refused_call c n e =
-    let m = rewrite_most c.asked in
-    subst (λ o. Rewrote o c.old c.new c.answer → (refusal_in c.answer ≡ suc n) × Each Untouched (buffers_of o c.old c.new c.answer))
-    (sym (refused_outcome c.asked n e))
-    (refused_by (suc n) c.old c.new c.answer (omega arith))
-    c.contract
-
--- every call of rewriting
-pub rewrite_answered : (c : RewriteCall) → Answered (fault_of c.asked) (refusal_in c.answer) (rewrite_buffers c)
-rewrite_answered c = go (fault_of c.asked) refl
-  where
-    go : (n : ℕ) → fault_of c.asked ≡ n → Answered n (refusal_in c.answer) (rewrite_buffers c)
-    go zero e = let d = accepted_by c e in record { refusal_is = d.0; refused = λ h. absurd (h refl); accepted = λ z. d.1 }
-    go (suc n) e = let d = refused_call c n e in record { refusal_is = d.0; refused = λ h. d.1; accepted = λ z. absurd (omega arith) }
-
--- its refusal, exactly
-pub rewrite_given : (c : RewriteCall) (n : ℕ)
-    → (refusal_in c.answer ≡ n)
-    ↔ (FailsFirst n (rewrite_tests c.asked)
-    ⊎ (AllPass (rewrite_tests c.asked) × (predicate_fault c.asked.schema c.asked.pool (words_of c.asked.predicate) ≡ n)))
-rewrite_given c n =
-    let a : Asked = c.asked in
-    rw ((rewrite_answered c).refusal_is, rewrite_order a) (exactly (rewrite_tests a) (predicate_fault a.schema a.pool (words_of a.predicate)) n)
 
 -- ---- pruning
 

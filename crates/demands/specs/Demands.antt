@@ -26,13 +26,10 @@ use Rattle.spill.specs.Prune.{Call, flags, pruning, grid_fine, list_in}
 use Rattle.spill.specs.Done.{Buffers}
 use Rattle.spill.specs.Rewriting.{rooms_of}
 use Rattle.demands.specs.Calls.{Asked, fault_of, outcome_of, asked_for, Blocks, call_of, cells_in, RewriteCall, PruneCall, refusal_in, fronts_of, Round, predicate_in, flag_byte}
-use Rattle.demands.specs.Bytes.{test, first_failing, FailsFirst, AllPass, rewrite_tests, prune_tests, rewrite_given, prune_given, Answered, rewrite_buffers, prune_buffers, rewrite_order, prune_order, rewrite_answered, prune_answered, flag_bit}
-use Rattle.demands.specs.Predicates.{Reads, rewrite_some, rewrite_one, prune_some, prune_one, reads_back, round_flags}
-use Rattle.demands.specs.Rows as Rows
+use Rattle.demands.specs.Bytes.{test, first_failing, FailsFirst, AllPass, rewrite_tests, prune_tests, prune_given, Answered, rewrite_buffers, prune_buffers, rewrite_order, prune_order, prune_answered, flag_bit}
+use Rattle.demands.specs.Predicates.{Reads}
 use Rattle.demands.specs.Rows.{Fit}
-use Rattle.demands.specs.Sharp as Sharp
 use Rattle.demands.specs.Sharp.{Literal, Possible, Possibly}
-use Rattle.demands.specs.Rounds.{round_drops, round_keeps, missing_cell, fit_without}
 
 -- ---- 1. every byte sequence
 
@@ -41,9 +38,6 @@ abbrev pub Answering : Type 0
 Answering =
     ((a : Asked) (old : Buffers) → a.rooms ≡ rooms_of old → (c : RewriteCall) × (c.asked ≡ a) × (c.old ≡ old))
     × ((g : Call) (old : List ℕ) → g.room ≡ length old → (c : PruneCall) × (c.given ≡ g) × (c.old ≡ old))
-
-pub answering : Answering
-answering = (rewrite_some, prune_some)
 
 -- A malformed call gets the refusal of the first test that fails, in document 01's order; a refusal counts nothing and leaves every
 -- buffer as it was; an accepted call changes only the counted fronts, to the definition's bytes; flags are 0 or 1.
@@ -72,13 +66,6 @@ EveryByteSequence =
     c.answer (prune_buffers c))
     × ((c : PruneCall) → c.answer ≡ 0 → (i : ℕ) → i < c.given.containers → (get_or c.new i 0 ≡ 0) ⊎ (get_or c.new i 0 ≡ 1))
 
-pub every_byte_sequence : EveryByteSequence
-every_byte_sequence = (
-  λ c. subst (λ n. Answered n (refusal_in c.answer) (rewrite_buffers c)) (rewrite_order c.asked) (rewrite_answered c),
-  λ c. subst (λ n. Answered n c.answer (prune_buffers c)) (prune_order c.given) (prune_answered c),
-  flag_bit,
-)
-
 -- A refusal is given exactly where its test fails and all before it pass; behind rewriting's tests stands the fault of the predicate
 -- (in a word of it: word_order, literal_order).
 abbrev pub InOrder : Type 0
@@ -89,9 +76,6 @@ InOrder =
     ⊎ (AllPass (rewrite_tests c.asked) × (predicate_fault c.asked.schema c.asked.pool (words_of c.asked.predicate) ≡ n))))
     × ((c : PruneCall) (n : ℕ) → (c.answer ≡ n) ↔ (FailsFirst n (prune_tests c.given) ⊎ (AllPass (prune_tests c.given) × (0 ≡ n))))
 
-pub in_order : InOrder
-in_order = (rewrite_given, prune_given)
-
 -- ---- 2. every predicate
 
 -- The outcome of each entry is the definition's and no other.
@@ -99,9 +83,6 @@ abbrev pub OneOutcome : Type 0
 OneOutcome =
     ((c d : RewriteCall) → c.asked ≡ d.asked → c.old ≡ d.old → (c.answer ≡ d.answer) × (c.new ≡ d.new))
     × ((c d : PruneCall) → c.given ≡ d.given → c.old ≡ d.old → (c.answer ≡ d.answer) × (c.new ≡ d.new))
-
-pub one_outcome : OneOutcome
-one_outcome = (rewrite_one, prune_one)
 
 -- What rewriting writes, read back, is the rewriting of the predicate; pruning by it gives the definition's flags.
 abbrev pub EveryPredicate : Type 0
@@ -113,9 +94,6 @@ EveryPredicate =
     ≡ flag_of (worth (cells_in x.prune.given i) (rewritten x.rewrite.asked.limit x.rewrite.asked.schema (predicate_in x)))
     (answers_drop x.blocks.answers (guarantee_words (guarantees 0 (predicate_in x))) (i * length (guarantees 0 (predicate_in x)))))
 
-pub every_predicate : EveryPredicate
-every_predicate = (reads_back, round_flags)
-
 -- ---- 3. every set of rows
 
 -- A dropped block whose cells and answers are true of some rows has no row for which the predicate is true: of the definitions,
@@ -126,26 +104,17 @@ DropsNoMatch =
     → (rows : List Row) → Fit (call_of a.schema (outcome_of a) b) (asked_for a) i rows
     → (r : Row) → In r rows → meaning r (asked_for a) ≡ True → ⊥
 
-pub drops_no_match : DropsNoMatch
-drops_no_match = Rows.drops_no_match
-
 -- and of the entries.
 abbrev pub EntriesDropNoMatch : Type 0
 EntriesDropNoMatch =
     (x : Round) (i : ℕ) → i < x.blocks.containers → flag_byte x i ≡ 0
     → (rows : List Row) → Fit x.prune.given (predicate_in x) i rows → (r : Row) → In r rows → meaning r (predicate_in x) ≡ True → ⊥
 
-pub entries_drop_no_match : EntriesDropNoMatch
-entries_drop_no_match = round_drops
-
 -- Whatever statistics are missing: a grid word of type 0 is an absent cell, and rows that fit cells fit them with any of them absent.
 abbrev pub WhateverIsMissing : Type 0
 WhateverIsMissing =
     ((c : Call) (i : ℕ) (s : Statistic) → type_of (get_or (words_of c.grid) (i * length (list_in c) + place_of s (list_in c)) 0) ≡ null_type → cells_in c i s ≡ null)
     × ((cells fewer : Cells) (rows : List Row) → ((s : Statistic) → (fewer s ≡ null) ⊎ (fewer s ≡ cells s)) → FitCells cells rows → FitCells fewer rows)
-
-pub whatever_is_missing : WhateverIsMissing
-whatever_is_missing = (missing_cell, fit_without)
 
 -- Nothing better was possible. One integer comparison, column first, no flips, its literal not null unless the operator is a
 -- distinct-from; no answers; every statistic asked for present, least ≤ greatest, blanks ≤ rows, at least one row. If the block is kept,
@@ -158,15 +127,9 @@ NothingBetter =
     → Possible c (cells_in (call_of a.schema (outcome_of a) b) i) (list_in (call_of a.schema (outcome_of a) b))
     → Possibly (call_of a.schema (outcome_of a) b) (asked_for a) i
 
-pub nothing_better : NothingBetter
-nothing_better = Sharp.nothing_better
-
 -- and of the entries.
 abbrev pub EntriesNothingBetter : Type 0
 EntriesNothingBetter =
     (x : Round) (i : ℕ) → i < x.blocks.containers → flag_byte x i ≡ 1 → x.blocks.answers ≡ []
     → (o : Operator) (c : Column) (v : Value) → predicate_in x ≡ comparison o c 0 false v → type_in x.rewrite.asked.schema c.0 ≡ integer_type → Literal o v
     → Possible c (cells_in x.prune.given i) (list_in x.prune.given) → Possibly x.prune.given (predicate_in x) i
-
-pub entries_nothing_better : EntriesNothingBetter
-entries_nothing_better = round_keeps

@@ -5,5 +5,4 @@ pub mod Bytes
 pub mod Predicates
 pub mod Sharp
 pub mod Needed
-pub mod Rounds
 pub mod Demands

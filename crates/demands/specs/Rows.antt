@@ -121,7 +121,7 @@ module _ (a : Asked) (b : Blocks) (taken-call : fault_of a ≡ 0) where
       let s = (call_bounded a.schema a.predicate a.pool a.limit a.rooms taken-call).small in
       words_bytes (guarantee_words (guarantees 0 (asked_for a))) (guarantees_below (guarantees 0 (asked_for a)) s)
 
-  written_sound : (i : ℕ) (rows : List Row) → Fit written (asked_for a) i rows → flag_in written i ≡ 0 → (r : Row) → In r rows
+  pub written_sound : (i : ℕ) (rows : List Row) → Fit written (asked_for a) i rows → flag_in written i ≡ 0 → (r : Row) → In r rows
       → meaning r (asked_for a) ≡ True → ⊥
   unfolding written flag_in Refutes
   written_sound i rows fit e r here true_of =
@@ -136,17 +136,3 @@ module _ (a : Asked) (b : Blocks) (taken-call : fault_of a ≡ 0) where
       answers_sound b.answers (guarantees 0 (asked_for a)) at rows r s fit.answers here (guarantees_keep r 0 (asked_for a) true_of)
       (subst (λ ws. answers_drop b.answers ws at ≡ true) words_back q))
       (dropped (worth (cells_in written i) (table_in written)) (answers_drop b.answers (words_of written.guarantees) at) e)
-
--- A predicate's call is accepted; pruned by its own table, statistics list and guarantees, blocks get flags; rows fit a block whose
--- flag is 0: then the predicate is true for none of them.
-pub drops_no_match : (a : Asked) (b : Blocks) (fs : List ℕ) → fault_of a ≡ 0 → pruning (call_of a.schema (outcome_of a) b) ≡ flags fs
-    → (i : ℕ) → i < b.containers → get_or fs i 1 ≡ 0
-    → (rows : List Row) → Fit (call_of a.schema (outcome_of a) b) (asked_for a) i rows
-    → (r : Row) → In r rows → meaning r (asked_for a) ≡ True → ⊥
-unfolding written
-drops_no_match a b fs t e i h z rows =
-    subst (λ o. pruning (call_of a.schema o b) ≡ flags fs → Fit (call_of a.schema o b) (asked_for a) i rows
-    → (r : Row) → In r rows → meaning r (asked_for a) ≡ True → ⊥)
-    (sym (accepted_writes a b t))
-    (λ e fit r here true_of. written_sound a b t i rows fit ((flags_say (written a b t) fs i 1 e h).1 ∙ z) r here true_of)
-    e

@@ -120,7 +120,7 @@ there : {A : Type 0} (v : Value) → is_null v ≡ false → v ≡ null → A
 there v e q = absurd (true≢false (rw q at e))
 
 -- the cells of an accepted call for one integer comparison
-record Cellular (c : Column) (o : Operator) (cells : Cells) (list : List Statistic) : Type 0 where
+pub record Cellular (c : Column) (o : Operator) (cells : Cells) (list : List Statistic) : Type 0 where
   list_is : list ≡ added_all [] (comparison_lists c o)
   unlisted : (s : Statistic) → (Listed s list → ⊥) → cells s ≡ null
   least : IntCell (cells (Least c))
@@ -326,10 +326,10 @@ of_type schema c d r t (inr h) = rw (h.1.1, h.0) (t, h.1.2)
 
 module _ (a : Asked) (b : Blocks) (taken-call : fault_of a ≡ 0) (o : Operator) (c : Column) (v : Value) (is : asked_for a ≡ comparison o c 0 false v)
     (whole : type_in a.schema c.0 ≡ integer_type) (none : b.answers ≡ []) (i : ℕ) (h : i < b.containers) where
-  call : Call
+  unfoldable pub call : Call
   call = written a b taken-call
 
-  cells : Cells
+  unfoldable pub cells : Cells
   cells = cells_in call i
 
   asked_list : list_in call ≡ added_all [] (comparison_lists c o)
@@ -356,7 +356,7 @@ module _ (a : Asked) (b : Blocks) (taken-call : fault_of a ≡ 0) (o : Operator)
   unfolding call cells written
   count_is s f = cell_by a.schema b.cells (list_in call) (words_of b.grid) CountCell i s (inl refl) (λ k. f _)
 
-  cellular : prune_fault call ≡ 0 → Cellular c o cells (list_in call)
+  pub cellular : prune_fault call ≡ 0 → Cellular c o cells (list_in call)
   unfolding call cells written
   cellular e =
       record {
@@ -369,7 +369,7 @@ module _ (a : Asked) (b : Blocks) (taken-call : fault_of a ≡ 0) (o : Operator)
       }
 
   -- the rows of a match fit the call's container
-  possibly : Match c cells o v → Possibly call (asked_for a) i
+  pub possibly : Match c cells o v → Possibly call (asked_for a) i
   unfolding call cells written meaning
   possibly m =
       record {
@@ -385,31 +385,10 @@ module _ (a : Asked) (b : Blocks) (taken-call : fault_of a ≡ 0) (o : Operator)
         true_of = rw is m.true_of;
       }
 
-  found : Literal o v → Cellular c o cells (list_in call) → Possible c cells (list_in call) → (worth cells (comparison_form c o v) ≡ False → ⊥) → Match c cells o v
+  pub found : Literal o v → Cellular c o cells (list_in call) → Possible c cells (list_in call) → (worth cells (comparison_form c o v) ≡ False → ⊥) → Match c cells o v
   found (inl (k, e)) q p n = subst (λ x. Match c cells o x) (sym e) (integer_match c cells (list_in call) o k q p (subst (λ x. worth cells (comparison_form c o x) ≡ False → ⊥) e n))
   found (inr (e, d)) q p n = subst (λ x. Match c cells o x) (sym e) (null_match c cells (list_in call) o d q p (subst (λ x. worth cells (comparison_form c o x) ≡ False → ⊥) e n))
 
-  not_false : flag_in call i ≡ 1 → worth cells (comparison_form c o v) ≡ False → ⊥
+  pub not_false : flag_in call i ≡ 1 → worth cells (comparison_form c o v) ≡ False → ⊥
   unfolding call cells flag_in
   not_false e q = kept (worth (cells_in call i) (table_in call)) _ e (rw asked_table q)
-
--- One integer comparison, column first, no flips, its literal not null unless the operator is a distinct-from; no answers; every
--- statistic asked for present, least ≤ greatest, blanks ≤ rows, at least one row. If the block's flag is 1, some rows that fit the same
--- cells hold one for which the predicate is true.
-pub nothing_better : (a : Asked) (b : Blocks) (fs : List ℕ) → fault_of a ≡ 0 → pruning (call_of a.schema (outcome_of a) b) ≡ flags fs
-    → (i : ℕ) → i < b.containers → get_or fs i 0 ≡ 1 → b.answers ≡ []
-    → (o : Operator) (c : Column) (v : Value) → asked_for a ≡ comparison o c 0 false v → type_in a.schema c.0 ≡ integer_type → Literal o v
-    → Possible c (cells_in (call_of a.schema (outcome_of a) b) i) (list_in (call_of a.schema (outcome_of a) b))
-    → Possibly (call_of a.schema (outcome_of a) b) (asked_for a) i
-unfolding call cells written
-nothing_better a b fs t e i h z none o c v is whole l p =
-    subst
-    (λ x. pruning (call_of a.schema x b) ≡ flags fs → Possible c (cells_in (call_of a.schema x b) i) (list_in (call_of a.schema x b))
-    → Possibly (call_of a.schema x b) (asked_for a) i)
-    (sym (accepted_writes a b t))
-    (λ e p.
-    let q = flags_say (call a b t o c v is whole none i h) fs i 0 e h in
-    let k = cellular a b t o c v is whole none i h q.0 in
-    let n = not_false a b t o c v is whole none i h (q.1 ∙ z) in
-    possibly a b t o c v is whole none i h (found a b t o c v is whole none i h l k p n))
-    e p

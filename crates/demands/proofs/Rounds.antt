@@ -21,10 +21,14 @@ use Rattle.spill.specs.Prune.{Call, pruning, prune_fault, flags, flag_in, flags_
 use Rattle.spill.specs.Done.{Buffers}
 use Rattle.spill.specs.Rewriting.{rooms_of}
 use Rattle.demands.specs.Calls.{Asked, fault_of, outcome_of, Blocks, call_of, cells_in, refusal_in, fronts_of, Round, predicate_in, flag_byte}
-use Rattle.demands.specs.Rows.{Fit, flags_say, drops_no_match}
-use Rattle.demands.specs.Sharp.{Literal, Possible, Possibly, nothing_better}
-use Rattle.demands.specs.Bytes.{rewrite_answered, prune_answered, accepted_pruning, flag_at}
-use Rattle.demands.specs.Predicates.{rewrite_some, prune_some, accepted_is, fronts_are}
+use Rattle.demands.specs.Rows.{Fit, flags_say}
+use Rattle.demands.proofs.Rows.{drops_no_match}
+use Rattle.demands.specs.Sharp.{Literal, Possible, Possibly}
+use Rattle.demands.proofs.Sharp.{nothing_better}
+use Rattle.demands.specs.Bytes.{prune_answered, accepted_pruning, flag_at}
+use Rattle.demands.proofs.Bytes.{rewrite_answered}
+use Rattle.demands.specs.Predicates.{rewrite_some, prune_some}
+use Rattle.demands.proofs.Predicates.{accepted_is, fronts_are}
 
 module _ (x : Round) where
   -- the pruning call by the definition's outputs
