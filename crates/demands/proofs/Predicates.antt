@@ -1,27 +1,18 @@
 -- Demand 2, "every predicate": each entry has the definition's outcome and no other; what rewriting writes, read back, is the rewriting
 -- of the predicate; pruning by it gives the definition's flags. From the contracts. Assumes nothing.
-use Rattle.std.specs.Prelude.{◌≡◌, refl, true, ◌&&◌, List, [], ◌∷◌, ℕ, ◌*◌, ◌/◌, ◌<◌, length, leb}
+use Rattle.std.specs.Prelude.{◌≡◌, refl, true, ◌&&◌, [], ◌∷◌, ℕ, ◌*◌, ◌<◌, length, leb}
 use Rattle.std.proofs.Common.{sym, ◌∙◌, ap, subst, arith, le-leb}
 use Rattle.limits.specs.Limits.{max_columns, max_containers, bad_containers, bad_grid, bad_answers}
-use Rattle.words.specs.Word.{words_of}
-use Rattle.words.specs.WordLaws.{length_bytes}
-use Rattle.predicate.specs.Predicates.{Predicate}
 use Rattle.predicate.specs.Checking.{schema_fine}
-use Rattle.table.specs.Rewriting.{rewritten, statistics}
+use Rattle.table.specs.Rewriting.{rewritten}
 use Rattle.table.specs.Worth.{worth}
 use Rattle.guarantees.specs.Guarantees.{guarantees, guarantee_words}
-use Rattle.guarantees.specs.GuaranteeLaws.{length_guarantees}
-use Rattle.pruning.specs.TableChecking.{checked_table}
 use Rattle.pruning.specs.Cells.{answers_fine}
 use Rattle.pruning.specs.Evaluating.{answers_drop, flag_of}
-use Rattle.spill.specs.Rewrite.{Outcome, writes, outputs, answer_word, table_out, pool_out, statistics_out, guarantees_out}
-use Rattle.spill.specs.Prune.{Call, pruning, prune_fault, flag_in, grid_fine, list_in, table_in, result_of, flags_out}
-use Rattle.words.specs.Stores.{written}
-use Rattle.spill.specs.Done.{Buffers, Rewrote, Flagged, rewrite_unique, prune_unique}
-use Rattle.spill.specs.Bounds.{taken, call_checked}
-use Rattle.spill.specs.Rewriting.{rooms_of}
+use Rattle.spill.specs.Rewrite.{Outcome, writes, table_out, pool_out, statistics_out, guarantees_out}
+use Rattle.spill.specs.Prune.{Call, prune_fault, flag_in, grid_fine}
+use Rattle.spill.specs.Bounds.{taken}
 use Rattle.demands.specs.Calls.{Asked, fault_of, outcome_of, asked_for, Blocks, call_of, cells_in, RewriteCall, PruneCall, refusal_in, fronts_of, Round, predicate_in, flag_byte}
-use Rattle.demands.specs.Rows as Rows
 use Rattle.demands.specs.Bytes.{test, first_failing, prune_order, prune_answered, accepted_outcome, flag_at}
 use Rattle.demands.proofs.Bytes.{rewrite_answered}
 use Rattle.demands.specs.Predicates.{Reads, outputs_read}

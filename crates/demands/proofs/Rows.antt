@@ -1,33 +1,12 @@
 -- Demand 3, first half, "every set of rows": a dropped block whose cells and answers are true of some rows has no row for which the
 -- predicate is true, whatever statistics are missing. From rewriting's call and pruning's call to rows. Assumes nothing.
-use Rattle.std.specs.Prelude.{◌≡◌, refl, Bool, true, false, cond, ◌||◌, ◌⊎◌, List, [], ◌∷◌, ℕ, zero, suc, ◌+◌, ◌*◌, ◌/◌, ◌<◌, length, get_or, eqb}
-use Rattle.std.proofs.Common.{sym, ◌∙◌, subst, true≢false, inl, inr, add-zero, zero-add, arith}
-use Rattle.std.proofs.Math.Path.{ap}
-use Rattle.std.proofs.Math.Logic.{⊎_elim}
-use Rattle.words.specs.Word.{words_of}
-use Rattle.words.specs.WordLaws.{words_bytes}
-use Rattle.kleene.specs.declared.Truth.{Truth}
-use Rattle.kleene.specs.declared.Truth.TheVariants.{False, Unknown, True}
-use Rattle.kleene.specs.TruthLaws.{Refutes}
-use Rattle.literals.specs.Literals.{bit_of}
-use Rattle.predicate.specs.Predicates.{Predicate}
+use Rattle.std.specs.Prelude.{◌≡◌, List, ℕ, ◌<◌, get_or}
+use Rattle.std.proofs.Common.{sym, ◌∙◌, subst}
+use Rattle.kleene.specs.declared.Truth.TheVariants.{True}
 use Rattle.predicate.specs.Meaning.{Row, meaning}
-use Rattle.predicate.specs.Rows.{In, RowOf}
-use Rattle.table.specs.Rewriting.{rewritten, statistics}
-use Rattle.table.specs.Worth.{worth}
-use Rattle.table.specs.Fitting.{FitCells}
-use Rattle.table.proofs.Soundness.{rewriting_sound}
-use Rattle.guarantees.specs.Guarantees.{Guarantee, guarantees, guarantee_words, answer_drops}
-use Rattle.guarantees.specs.GuaranteeLaws.{AllSmall, guarantee_not_in, guarantees_below}
-use Rattle.guarantees.specs.Fitting.{FitAnswer}
-use Rattle.guarantees.specs.Soundness.{Each, KeepsRow, guarantees_keep, answer_sound}
-use Rattle.limits.specs.Limits.{max_table_depth}
-use Rattle.pruning.specs.TableReading.{table_at}
-use Rattle.pruning.specs.Evaluating.{is_false, answers_drop, flag_of}
-use Rattle.spill.specs.Rewrite.{rewriting, outputs}
-use Rattle.spill.specs.Prune.{Call, flags, pruning, prune_fault, flag_in, flags_from, list_in, table_in, unless_fault}
-use Rattle.demands.specs.Calls.{Asked, fault_of, outcome_of, asked_for, Blocks, call_of, cells_in}
-use Rattle.spill.specs.Bounds.{taken, call_bounded, call_list, call_table}
+use Rattle.predicate.specs.Rows.{In}
+use Rattle.spill.specs.Prune.{flags, pruning}
+use Rattle.demands.specs.Calls.{Asked, fault_of, outcome_of, asked_for, Blocks, call_of}
 use Rattle.demands.specs.Rows.{Fit, accepted_writes, flags_say, written, written_sound}
 
 -- A predicate's call is accepted; pruned by its own table, statistics list and guarantees, blocks get flags; rows fit a block whose

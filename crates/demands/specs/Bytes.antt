@@ -1,11 +1,10 @@
 -- Demand 1, "every byte sequence": what every call of the two entries answers and leaves, stated once for both, from their contracts.
 -- Assumes nothing.
 use Rattle.std.specs.Prelude.{◌≡◌, refl, Bool, true, false, cond, not, ◌&&◌, ◌||◌, ◌⊎◌, ◌↔◌, List, [], ◌∷◌, ℕ, zero, suc, ◌+◌, ◌-◌, ◌*◌, ◌/◌, ◌%◌, ◌^◌, ◌<◌, ◌≤◌, length, get_or, take, drop, eqb, leb}
-use Rattle.std.proofs.Common.{sym, ◌∙◌, ap, subst, true≢false, inl, inr, arith, get_or-append-add, get_or-drop, ne_eqb}
+use Rattle.std.proofs.Common.{sym, ◌∙◌, ap, true≢false, inl, inr, arith, get_or-append-add, get_or-drop, ne_eqb}
 use Rattle.std.proofs.Math.ListN.{get_or-append}
 use Rattle.limits.specs.Limits.{max_list_limit, max_pool_bytes, max_containers, bad_schema, bad_limit, no_room, malformed, over_limit, misfit, bad_containers, bad_table, bad_grid, bad_answers}
-use Rattle.words.specs.Word.{words_of, bytes_of}
-use Rattle.words.specs.WordLaws.{length_bytes}
+use Rattle.words.specs.Word.{words_of}
 use Rattle.words.specs.Layout.{field, Within}
 use Rattle.words.specs.LayoutLaws.{field_packed}
 use Rattle.words.specs.Stores.{written, take_written, length_written}
@@ -19,16 +18,8 @@ use Rattle.predicate.specs.Predicates.{node_at}
 use Rattle.predicate.specs.Checking.{schema_fine, type_in, missing, formed, limited, columned, literal_limited, patterned, after_literal, passes, check_literal, node_fault, predicate_fault}
 use Rattle.predicate.specs.CheckingLaws.{Fault}
 use Rattle.predicate.proofs.CheckingLaws.{predicate_fault_lem}
-use Rattle.predicate.specs.Calls.{Rooms, roomy, rewrite_fault}
-use Rattle.statistics.specs.declared.Statistic.{Statistic}
-use Rattle.statistics.specs.Statistics.{statistic_words}
-use Rattle.statistics.specs.ListLaws.{length_statistics}
-use Rattle.table.specs.Tables.{Table}
-use Rattle.table.specs.Rewriting.{rewritten, statistics}
-use Rattle.table.specs.Encoding.{table_words, pool_of}
+use Rattle.predicate.specs.Calls.{roomy, rewrite_fault}
 use Rattle.table.specs.Worth.{worth}
-use Rattle.guarantees.specs.Guarantees.{Guarantee, guarantees, guarantee_words}
-use Rattle.guarantees.specs.GuaranteeLaws.{length_guarantees}
 use Rattle.pruning.specs.TableChecking.{checked_table}
 use Rattle.pruning.specs.Cells.{answers_fine}
 use Rattle.pruning.specs.Evaluating.{is_false, answers_drop, flag_of}
@@ -36,7 +27,7 @@ use Rattle.spill.specs.Rewrite.{Outcome, refuses, writes, outputs, rewriting, an
 use Rattle.spill.specs.Prune as Prune
 use Rattle.spill.specs.Prune.{Call, flags, pruning, prune_fault, flag_in, flags_from, table_in, grid_fine, flags_out}
 use Rattle.spill.specs.Done.{Buffers, Rewrote, Flagged}
-use Rattle.spill.specs.Bounds.{taken, call_bounded, prune_taken}
+use Rattle.spill.specs.Bounds.{prune_taken}
 use Rattle.demands.specs.Calls.{Asked, fault_of, outcome_of, asked_for, RewriteCall, PruneCall, refusal_in, table_bytes, pool_bytes, statistics_bytes, guarantees_bytes, cells_in}
 use Rattle.demands.specs.Rows.{flags_say}
 

@@ -1,7 +1,6 @@
 -- What was asked to be proved: three demands, each as a statement and its proof. A RewriteCall or a PruneCall is any call of spill_rewrite
 -- or spill_prune with its contract; a Round is pruning by the fronts that rewriting left (Calls.antt). Assumes nothing.
 use Rattle.std.specs.Prelude.{◌≡◌, false, ◌&&◌, ◌⊎◌, ◌↔◌, List, [], ◌∷◌, ℕ, ◌+◌, ◌*◌, ◌/◌, ◌%◌, ◌<◌, length, get_or, eqb, leb}
-use Rattle.std.proofs.Common.{subst}
 use Rattle.limits.specs.Limits.{max_list_limit, max_pool_bytes, max_containers, bad_schema, bad_limit, no_room, malformed, bad_containers, bad_table, bad_grid, bad_answers}
 use Rattle.words.specs.Word.{words_of}
 use Rattle.operators.specs.declared.Operator.{Operator}
@@ -26,7 +25,7 @@ use Rattle.spill.specs.Prune.{Call, flags, pruning, grid_fine, list_in}
 use Rattle.spill.specs.Done.{Buffers}
 use Rattle.spill.specs.Rewriting.{rooms_of}
 use Rattle.demands.specs.Calls.{Asked, fault_of, outcome_of, asked_for, Blocks, call_of, cells_in, RewriteCall, PruneCall, refusal_in, fronts_of, Round, predicate_in, flag_byte}
-use Rattle.demands.specs.Bytes.{test, first_failing, FailsFirst, AllPass, rewrite_tests, prune_tests, prune_given, Answered, rewrite_buffers, prune_buffers, rewrite_order, prune_order, prune_answered, flag_bit}
+use Rattle.demands.specs.Bytes.{test, first_failing, FailsFirst, AllPass, rewrite_tests, prune_tests, Answered, rewrite_buffers, prune_buffers}
 use Rattle.demands.specs.Predicates.{Reads}
 use Rattle.demands.specs.Rows.{Fit}
 use Rattle.demands.specs.Sharp.{Literal, Possible, Possibly}

@@ -1,7 +1,7 @@
 -- Demand 3, second half, "nothing better was possible": where a block is kept for one integer comparison, some rows fit its cells and
 -- hold a match. From rewriting's call and pruning's call to rows. Assumes nothing.
 use Rattle.std.proofs.Math.Path.{◌≡◌, ap}
-use Rattle.std.specs.Prelude.{refl, Bool, true, false, cond, ◌⊎◌, List, [], ◌∷◌, ◌++◌, ℕ, suc, ◌+◌, ◌*◌, ◌<◌, ◌≤◌, get_or, eqb, ltb, ℤ, pos}
+use Rattle.std.specs.Prelude.{refl, Bool, true, false, cond, ◌⊎◌, List, [], ◌∷◌, ◌++◌, ℕ, suc, ◌+◌, ◌*◌, ◌<◌, ◌≤◌, eqb, ltb, ℤ, pos}
 use Rattle.std.proofs.Common.{sym, ◌∙◌, subst, true≢false, inl, inr, eq-eqb}
 use Rattle.std.proofs.Math.Logic.{⊎_elim}
 use native.Mathlib.Omega.{arith}
@@ -34,10 +34,10 @@ use Rattle.guarantees.specs.Guarantees.{Guarantee, guarantees}
 use Rattle.pruning.specs.Cells.{cell_fine, cell_value, rows_fine}
 use Rattle.pruning.specs.GridLaws.{IntCell, CountCell, cell_by, listed_fine, unlisted_cell, count_cell, bound_cell}
 use Rattle.pruning.specs.Evaluating.{flag_of}
-use Rattle.spill.specs.Prune.{Call, flags, pruning, prune_fault, flag_in, list_in, table_in}
+use Rattle.spill.specs.Prune.{Call, prune_fault, flag_in, list_in, table_in}
 use Rattle.spill.specs.Bounds.{prune_taken}
-use Rattle.demands.specs.Calls.{Asked, fault_of, outcome_of, asked_for, Blocks, call_of, cells_in}
-use Rattle.demands.specs.Rows.{Fit, FitAnswers, flags_say, accepted_writes, written, list_back, table_back}
+use Rattle.demands.specs.Calls.{Asked, fault_of, asked_for, Blocks, cells_in}
+use Rattle.demands.specs.Rows.{Fit, FitAnswers, written, list_back, table_back}
 use Rattle.table.proofs.Sharpness.{Summary, Match, Held, sharp, sharp_distinct, sharp_not_distinct}
 
 -- ---- one integer comparison, column first, no flips
