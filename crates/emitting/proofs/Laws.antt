@@ -34,6 +34,9 @@ pub deep : (d : ℕ) → (d ≡ 0 → ⊥) → 0 < d
 deep zero h = absurd (h refl)
 deep (suc d) h = omega arith
 
+pub fall : (d t : ℕ) → (d ≡ 0 → ⊥) → d ≡ t → d - 1 < t
+fall d t h e = let k = deep d h in omega arith
+
 pub constant_width : (t : Truth) → table_width (constant_table t) ≡ 1
 constant_width False = refl
 constant_width Unknown = refl
