@@ -1,5 +1,4 @@
--- What was asked to be proved: three demands, each as a statement and its proof. A RewriteCall or a PruneCall is any call of spill_rewrite
--- or spill_prune with its contract; a Round is pruning by the fronts that rewriting left (Calls.antt). Assumes nothing.
+-- The proofs of the three demands, each of its statement in specs/Demands.antt. Assumes nothing.
 use Rattle.std.proofs.Common.{subst}
 use Rattle.demands.specs.Calls.{refusal_in}
 use Rattle.demands.specs.Bytes.{prune_given, Answered, rewrite_buffers, prune_buffers, rewrite_order, prune_order, prune_answered, flag_bit}

@@ -1,4 +1,4 @@
--- Demand 1, "every byte sequence": what every call of the two entries answers and leaves, stated once for both, from their contracts.
+-- For demand 1, "every byte sequence" (rewriting in proofs/Bytes.antt, pruning here): what every call of the two entries answers and leaves, stated once for both, from their contracts.
 -- Assumes nothing.
 use Rattle.std.specs.Prelude.{◌≡◌, refl, Bool, true, false, cond, not, ◌&&◌, ◌||◌, ◌⊎◌, ◌↔◌, List, [], ◌∷◌, ℕ, zero, suc, ◌+◌, ◌-◌, ◌*◌, ◌/◌, ◌%◌, ◌^◌, ◌<◌, ◌≤◌, length, get_or, take, drop, eqb, leb}
 use Rattle.std.proofs.Common.{sym, ◌∙◌, ap, true≢false, inl, inr, arith, get_or-append-add, get_or-drop, ne_eqb}

@@ -1,4 +1,4 @@
--- What was asked to be proved: three demands, each as a statement and its proof. A RewriteCall or a PruneCall is any call of spill_rewrite
+-- What was asked to be proved: three demands, each as a statement; the proofs stand in proofs/Demands.antt. A RewriteCall or a PruneCall is any call of spill_rewrite
 -- or spill_prune with its contract; a Round is pruning by the fronts that rewriting left (Calls.antt). Assumes nothing.
 use Rattle.std.specs.Prelude.{◌≡◌, false, ◌&&◌, ◌⊎◌, ◌↔◌, List, [], ◌∷◌, ℕ, ◌+◌, ◌*◌, ◌/◌, ◌%◌, ◌<◌, length, get_or, eqb, leb}
 use Rattle.limits.specs.Limits.{max_list_limit, max_pool_bytes, max_containers, bad_schema, bad_limit, no_room, malformed, bad_containers, bad_table, bad_grid, bad_answers}

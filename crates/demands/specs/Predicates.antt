@@ -1,4 +1,4 @@
--- Demand 2, "every predicate": each entry has the definition's outcome and no other; what rewriting writes, read back, is the rewriting
+-- For demand 2, "every predicate" (outcomes here, reading back in proofs/Predicates.antt): each entry has the definition's outcome and no other; what rewriting writes, read back, is the rewriting
 -- of the predicate; pruning by it gives the definition's flags. From the contracts. Assumes nothing.
 use Rattle.std.specs.Prelude.{◌≡◌, refl, true, List, ℕ, ◌/◌, length}
 use Rattle.std.proofs.Common.{arith}

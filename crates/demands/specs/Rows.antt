@@ -1,4 +1,4 @@
--- Demand 3, first half, "every set of rows": a dropped block whose cells and answers are true of some rows has no row for which the
+-- For demand 3, first half, "every set of rows" (proofs/Rows.antt): a dropped block whose cells and answers are true of some rows has no row for which the
 -- predicate is true, whatever statistics are missing. From rewriting's call and pruning's call to rows. Assumes nothing.
 use Rattle.std.specs.Prelude.{◌≡◌, refl, Bool, true, false, cond, ◌||◌, ◌⊎◌, List, [], ◌∷◌, ℕ, zero, suc, ◌+◌, ◌*◌, ◌/◌, ◌<◌, length, get_or, eqb}
 use Rattle.std.proofs.Common.{sym, ◌∙◌, subst, true≢false, inl, inr, add-zero, zero-add, arith}

@@ -1,4 +1,4 @@
--- Demand 3, second half, "nothing better was possible": where a block is kept for one integer comparison, some rows fit its cells and
+-- For demand 3, second half, "nothing better was possible" (proofs/Sharp.antt): where a block is kept for one integer comparison, some rows fit its cells and
 -- hold a match. From rewriting's call and pruning's call to rows. Assumes nothing.
 use Rattle.std.proofs.Math.Path.{◌≡◌, ap}
 use Rattle.std.specs.Prelude.{refl, Bool, true, false, cond, ◌⊎◌, List, [], ◌∷◌, ◌++◌, ℕ, suc, ◌+◌, ◌*◌, ◌<◌, ◌≤◌, eqb, ltb, ℤ, pos}
