@@ -1,5 +1,4 @@
--- Demand 1, "every byte sequence": what every call of the two entries answers and leaves, stated once for both, from their contracts.
--- Assumes nothing.
+-- Demand 1, "every byte sequence", of rewriting: what every call answers and leaves, from its contract. Assumes nothing.
 use Rattle.std.specs.Prelude.{◌≡◌, refl, ◌⊎◌, ◌↔◌, List, ℕ, zero, suc, length}
 use Rattle.std.proofs.Common.{sym, ap, subst, arith}
 use Rattle.words.specs.Word.{words_of, bytes_of}

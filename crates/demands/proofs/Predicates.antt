@@ -1,5 +1,5 @@
--- Demand 2, "every predicate": each entry has the definition's outcome and no other; what rewriting writes, read back, is the rewriting
--- of the predicate; pruning by it gives the definition's flags. From the contracts. Assumes nothing.
+-- Demand 2, "every predicate": what rewriting writes, read back, is the rewriting of the predicate; pruning by it gives the definition's
+-- flags. From the contracts. Assumes nothing.
 use Rattle.std.specs.Prelude.{◌≡◌, refl, true, ◌&&◌, [], ◌∷◌, ℕ, ◌*◌, ◌<◌, length, leb}
 use Rattle.std.proofs.Common.{sym, ◌∙◌, ap, subst, arith, le-leb}
 use Rattle.limits.specs.Limits.{max_columns, max_containers, bad_containers, bad_grid, bad_answers}

@@ -1,4 +1,4 @@
--- How many guarantees a predicate gives, and that each names a column and a node word of the predicate. Assumes nothing.
+-- The guarantees of a predicate that checking accepts: how many there are, and that each fits its word. Assumes nothing.
 use Rattle.std.specs.Prelude.{List, ℕ, ◌≤◌, length}
 use Rattle.std.proofs.Common.{arith}
 use Rattle.limits.specs.Limits.{max_columns, max_guarantees}

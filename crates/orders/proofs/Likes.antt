@@ -1,4 +1,4 @@
--- LIKE's form over a least and a greatest text: it is true where a text between them matches the pattern. Assumes nothing.
+-- LIKE's form over a least and a greatest text is true where a text between them matches the pattern. Assumes nothing.
 use Rattle.std.specs.Prelude.{◌≡◌, true, false, List, ℕ}
 use Rattle.std.proofs.Common.{sym, ◌∙◌, true≢false}
 use Rattle.std.proofs.Math.Option.{some}

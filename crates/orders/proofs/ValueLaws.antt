@@ -1,4 +1,4 @@
--- Values of one kind compare by a total order: the facts about comparing values, once over any such kind. Assumes nothing.
+-- Values that compare as known are of one type, and what holds by their order holds of them. Assumes nothing.
 use Rattle.std.specs.Prelude.{◌≡◌, false}
 use Rattle.operators.specs.declared.Operator.{Operator}
 use Rattle.operators.specs.declared.Operator.TheVariants.{Equal, NotEqual, Below, AtMost, Above, AtLeast, Distinct, NotDistinct}

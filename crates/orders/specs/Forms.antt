@@ -1,5 +1,5 @@
--- The form of each comparison over a least and a greatest value, in any total order: it is true where a value between them satisfies
--- the comparison and, if least ≤ greatest, only there. Assumes nothing.
+-- The form of each comparison over a least and a greatest value, in any total order, and the facts from which proofs/Forms.antt has that
+-- it is true where a value between them satisfies the comparison and, if least ≤ greatest, only there. Assumes nothing.
 use Rattle.std.specs.Prelude.{◌≡◌, refl, Bool, true, false, not, ◌&&◌, ◌||◌}
 use Rattle.std.proofs.Common.{sym, ◌∙◌, true≢false}
 use Rattle.std.proofs.Math.Bool.{and-eq-true_iff}

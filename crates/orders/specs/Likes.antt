@@ -1,4 +1,4 @@
--- LIKE's form over a least and a greatest text: it is true where a text between them matches the pattern. Assumes nothing.
+-- LIKE's form over a least and a greatest text; proofs/Likes.antt has what it says of the texts between them. Assumes nothing.
 use Rattle.std.specs.Prelude.{Bool, ◌&&◌, List, ℕ}
 use Rattle.operators.specs.declared.Operator.TheVariants.{AtMost}
 use Rattle.orders.specs.Order.{compares}

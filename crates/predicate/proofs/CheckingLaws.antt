@@ -1,4 +1,5 @@
--- Laws of checking: each of its steps in the code's terms, and what a word with no fault says. Assumes nothing.
+-- Laws of checking a literal word, a node word and a whole predicate: what one with no fault says, and which refusals there are.
+-- Assumes nothing.
 use Rattle.std.specs.Prelude.{◌≡◌, ◌&&◌, List}
 use Rattle.std.proofs.Math.Path.{refl}
 use Rattle.std.proofs.Common.{arith}

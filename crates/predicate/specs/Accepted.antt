@@ -1,5 +1,5 @@
--- What follows when checking passes: the predicate that the words stand for fits the schema, and its measures are what checking
--- has counted, within the limits. Assumes nothing.
+-- What a predicate is that checking accepts: it fits the schema, and its measures are what checking has counted, within the limits.
+-- proofs/Accepted.antt has that a passing check says so. Assumes nothing.
 use Rattle.std.specs.Prelude.{◌≡◌, refl, true, not as negation, List, [], ◌∷◌, ◌++◌, length, eqb}
 use Rattle.std.proofs.Common.{sym, ap, ◌∙◌, arith, length-take, length-drop, eq-eqb}
 use Rattle.std.proofs.Math.Bool.{false}

@@ -1,4 +1,4 @@
--- Laws of checking: each of its steps in the code's terms, and what a word with no fault says. Assumes nothing.
+-- Laws of checking: its steps one by one, and what a well-formed node word and a fitting column say. Assumes nothing.
 use Rattle.std.specs.Prelude.{◌≡◌, not, ◌&&◌, ◌||◌, List, ◌⊎◌}
 use Rattle.std.proofs.Math.Path.{refl}
 use Rattle.std.proofs.Common.{sym, ◌∙◌, arith}

@@ -1,5 +1,4 @@
--- A list's table: what it folds to, and its words and pool, as a writer makes them: the joins first, then the open members in order.
--- Assumes nothing.
+-- The members of a list, joined from the left, are what the list folds to. Assumes nothing.
 use Rattle.std.specs.Prelude.{◌≡◌, Bool, true, cond, ◌&&◌, ℕ}
 use Rattle.std.proofs.Common.{sym, ◌∙◌, ap, inl, inr}
 use mathlib.Core.List.{List, [], ◌∷◌, ◌++◌, append_assoc, append-nil}

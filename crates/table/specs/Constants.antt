@@ -1,4 +1,5 @@
--- Rewriting yields constants at the root only. Assumes nothing.
+-- Tables that are a constant and tables with none in them, and what joins and forms make of them; proofs/Constants.antt has that
+-- rewriting yields no others. Assumes nothing.
 use Rattle.std.specs.Prelude.{◌≡◌, refl, Bool, true, false, ◌⊎◌, List, ℕ}
 use Rattle.std.proofs.Common.{inl, inr}
 use Rattle.std.proofs.Math.Option.{Option, some, none}

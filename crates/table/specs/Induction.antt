@@ -1,5 +1,4 @@
--- Induction over rewriting: what the table and the statistics of every leaf have, and a join keeps, those of every predicate have.
--- Assumes nothing.
+-- For induction over rewriting (proofs/Induction.antt): what is asked of every leaf, and of a join. Assumes nothing.
 use Rattle.std.specs.Prelude.{Bool}
 use Rattle.std.proofs.Math.Bool.{false}
 use mathlib.Core.List.{List, [], ◌∷◌, ◌++◌}

@@ -1,5 +1,4 @@
--- The increment of a text (increment_utf8 of the source): the last character that can be raised is raised, and what follows it is cut off.
--- The rule for one character is a parameter of the theorems. Assumes nothing.
+-- The rule for one character raises it, to an allowed character of at most one byte more. Assumes nothing.
 use Rattle.std.proofs.Common.{arith}
 use Rattle.text.specs.Increment.{Raises, allowed_scalar, grow, raised, raised_is}
 

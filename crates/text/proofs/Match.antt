@@ -1,4 +1,4 @@
--- Which texts match a LIKE pattern, by characters; a match begins with the pattern's prefix, in characters and in bytes. Assumes nothing.
+-- A row that matches a LIKE pattern begins with the pattern's prefix in bytes; the prefix of UTF-8 is UTF-8. Assumes nothing.
 use Rattle.std.specs.Prelude.{◌≡◌, true, false, ℕ}
 use Rattle.std.proofs.Common.{sym, ◌∙◌, ap}
 use mathlib.Core.List.{List, [], append-nil}

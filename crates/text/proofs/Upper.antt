@@ -1,5 +1,5 @@
--- The upper bound of a LIKE pattern, if it has one, by document 01's rule for one character; a match lies between prefix and upper bound.
--- Assumes nothing.
+-- A row that LIKE matches lies between the pattern's prefix and its upper bound, which is UTF-8 and has at most one byte more than the
+-- pattern. Assumes nothing.
 use Rattle.std.specs.Prelude.{◌≡◌, refl, true, false, List, [], ◌∷◌, ℕ, ◌+◌, ◌≤◌, length}
 use Rattle.std.proofs.Common.{subst, arith}
 use Rattle.std.proofs.Math.Option.{some, some-injective}

@@ -1,4 +1,5 @@
--- Which texts match a LIKE pattern, by characters; a match begins with the pattern's prefix, in characters and in bytes. Assumes nothing.
+-- Which texts match a LIKE pattern, by characters; a match begins with the pattern's prefix in characters, and the prefix is the same in
+-- bytes (of a match in bytes: proofs/Match.antt). Assumes nothing.
 use Rattle.std.specs.Prelude.{◌≡◌, refl, Bool, true, false, cond, ◌&&◌, ◌||◌, ℕ, ◌≤◌, eqb}
 use Rattle.std.proofs.Common.{sym, ◌∙◌, ap, inl, arith, eqb-true, ne_eqb}
 use Rattle.std.proofs.lemmas.Bool.{false≢true}

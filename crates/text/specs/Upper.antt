@@ -1,5 +1,5 @@
--- The upper bound of a LIKE pattern, if it has one, by document 01's rule for one character; a match lies between prefix and upper bound.
--- Assumes nothing.
+-- The upper bound of a LIKE pattern, if it has one, by document 01's rule for one character; proofs/Upper.antt has that a match lies
+-- between prefix and upper bound. Assumes nothing.
 use Rattle.std.specs.Prelude.{Bool, true, false, cond, List, [], ◌∷◌, ℕ, ◌+◌, ◌≤◌, length}
 use Rattle.std.proofs.Common.{arith}
 use Rattle.std.proofs.Math.Option.{Option, some}
