@@ -7,7 +7,7 @@ use Rattle.increment.proofs.decode.Goals as goal
 pub returns-then-n-eq1 : goal.returns-then-n-eq1
 unfolding decode_at
 returns-then-n-eq1 c =
-    (rw (eq-eqb _ _ c.if-n-eq1.true) c.wide.ensures, let h = c.wide.ensures in omega (arith, c.shared_slice_known-then-n-eq1-1.given c.args.at))
+    (rw (eq-eqb _ _ c.if-n-eq1.true) c.wide.ensures, let h = c.wide.ensures in omega (arith, (c.type_inv.s c.args.at).fits))
 
 pub returns-then-n-eq2 : goal.returns-then-n-eq2
 unfolding decode_at

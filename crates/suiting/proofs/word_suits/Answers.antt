@@ -1,5 +1,7 @@
 -- The type picks its test; of no other is there a word but null's. Assumes nothing.
-use mathlib.Core.Path.{sym}
+use mathlib.Core.Path.{◌≡◌, sym}
+use native.Mathlib.Omega.{arith}
+use Rattle.literals.specs.Literals.{integer_type, text_type, truth_type}
 use Rattle.suiting.specs.Suiting.{none_is}
 use Rattle.suiting.proofs.word_suits.Goals as goal
 
@@ -17,4 +19,7 @@ returns-in-3 c =
 
 pub returns-in_default : goal.returns-in_default
 returns-in_default c =
-    sym (none_is c.args.pool.now c.args.w c.ranges.w.fits c.args.kind c.in_default.in_default-own.rest.0.0.1 c.in_default.in_default-own.rest.0.1 c.in_default.in_default-own.rest.1)
+    let no_integer : c.args.kind ≡ integer_type → ⊥ = omega arith in
+    let no_text : c.args.kind ≡ text_type → ⊥ = omega arith in
+    let no_truth : c.args.kind ≡ truth_type → ⊥ = omega arith in
+    sym (none_is c.args.pool.now c.args.w c.ranges.w.fits c.args.kind no_integer no_text no_truth)
