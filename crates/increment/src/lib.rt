@@ -13,27 +13,6 @@ ghost use Rattle.text.specs.Upper.{rule, increment_of, upper_of};
 ghost use Rattle.increment.specs.Walk.{is_cont, start_at, of2, of3, of4, decode_at};
 ghost use Rattle.increment.specs.Outcome.{next_of, place_of, Outcome};
 
-// A character raised, where it can be.
-#[derive(Clone, Copy)]
-enum Next {
-    To(u32),
-    Nothing,
-}
-
-// Where the character to raise begins, and what it is raised to.
-#[derive(Clone, Copy)]
-enum Rise {
-    At(usize, u32),
-    Never,
-}
-
-// Where a text ends in its buffer, if there is one.
-#[derive(Clone, Copy)]
-pub enum End {
-    Until(usize),
-    Absent,
-}
-
 // Whether c lies in a .. b.
 fn between(a: u32, b: u32, c: u32) -> bool
     ensures { result ≡ within a b c }
@@ -58,16 +37,12 @@ fn is_valid_unicode(c: u32) -> bool
 }
 
 // The rule for one character: code point + 1, where that may stand.
-fn next_char(c: u32) -> Next
+fn next_char(c: u32) -> Option<u32>
     requires { c < 0x200000 }
     ensures { result ≡ next_of (rule c) }
 {
     let d = c + 1;
-    if is_valid_unicode(d) {
-        Next::To(d)
-    } else {
-        Next::Nothing
-    }
+    if is_valid_unicode(d) { Some(d) } else { None }
 }
 
 // Whether b is a continuation byte.
@@ -143,8 +118,8 @@ fn decode(s: &[u8], at: usize, end: usize) -> u32
     0x10FFFF
 }
 
-// The last character that can be raised, from the end backwards.
-fn find_rise(s: &[u8]) -> Rise
+// Where the last character begins that can be raised, from the end backwards, and what it is raised to.
+fn find_rise(s: &[u8]) -> Option<(usize, u32)>
     requires { Utf8 s.now }
     ensures { result ≡ place_of (rise rule (chars_of s.now)) }
 {
@@ -154,15 +129,15 @@ fn find_rise(s: &[u8]) -> Rise
         let c = decode(s, at, end);
         let n = next_char(c);
         match n {
-            Next::To(d) => {
-                return Rise::At(at, d);
+            Some(d) => {
+                return Some((at, d));
             }
-            Next::Nothing => {
+            None => {
                 end = at;
             }
         }
     }
-    Rise::Never
+    None
 }
 
 // Stores a character of one byte.
@@ -225,29 +200,29 @@ fn put_char(out: &mut [u8], at: usize, c: u32) -> usize
 }
 
 // Increments the text in the first len bytes (increment_utf8), in place; it can become one byte longer.
-pub fn increment_utf8(text: &mut [u8], len: usize) -> End
+pub fn increment_utf8(text: &mut [u8], len: usize) -> Option<usize>
     requires { (len < length text.old) × Utf8 (take len text.old) }
     ensures { Outcome (increment_of (take len text.old)) text.old text.new result }
 {
     let x = find_rise(&text[..len]);
     match x {
-        Rise::At(at, d) => {
+        Some((at, d)) => {
             let end = put_char(text, at, d);
-            End::Until(end)
+            Some(end)
         }
-        Rise::Never => End::Absent,
+        None => None,
     }
 }
 
 // Stores the prefix of a LIKE pattern at the front of out, and the pattern's upper bound over it (as in build_like_match).
-pub fn upper_bound(pattern: &[u8], out: &mut [u8]) -> End
+pub fn upper_bound(pattern: &[u8], out: &mut [u8]) -> Option<usize>
     requires { Utf8 pattern.now × (length (prefix_of false pattern.now) < length out.old) }
     ensures { Outcome (upper_of pattern.now) (written (prefix_of false pattern.now) out.old) out.new result }
 {
     let n = text::write_prefix(pattern, out, 0);
     let rest = text::split_constant_prefix(pattern);
     if rest.len() == 0 {
-        return End::Until(n);
+        return Some(n);
     }
     increment_utf8(out, n)
 }

@@ -4,7 +4,6 @@
 ghost use Rattle.std.specs.Prelude.{◌<◌, length};
 ghost use Rattle.text.specs.Utf8.{Utf8};
 
-use increment::End;
 use std::io;
 
 // A byte as a number.
@@ -47,8 +46,8 @@ fn show_upper(rt: &impl Print, pattern: &[u8]) -> io::Result<()>
     let r = increment::upper_bound(pattern, &mut out);
     print!(rt; " upper ")?;
     match r {
-        End::Until(n) => show(rt, &out[..n]),
-        End::Absent => print!(rt; "unhandled"),
+        Some(n) => show(rt, &out[..n]),
+        None => print!(rt; "unhandled"),
     }
 }
 
