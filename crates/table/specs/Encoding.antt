@@ -1,6 +1,7 @@
 -- A table as words and a literal pool: statistics by their places in a list, literals in table order, each with its own bytes.
 -- Assumes nothing.
-use Rattle.std.specs.Prelude.{List, [], ◌∷◌, ◌++◌, ℕ, ◌+◌, length}
+use Rattle.std.specs.Prelude.{◌≡◌, refl, List, [], ◌∷◌, ◌++◌, ℕ, ◌+◌, ◌<◌, length, get_or, Option, Some, None}
+use Rattle.std.proofs.Common.{lit<}
 use Rattle.words.specs.Layout.{packed}
 use Rattle.operators.specs.Operators.{code_of}
 use Rattle.kleene.specs.declared.Joining.{Joining}
@@ -8,6 +9,8 @@ use Rattle.kleene.specs.declared.Joining.TheVariants.{And, Or}
 use Rattle.literals.specs.Literals.{value_bytes, value_word, bit_of}
 use Rattle.statistics.specs.declared.Statistic.{Statistic}
 use Rattle.statistics.specs.Statistics.{place_of}
+use Rattle.table.specs.declared.Kind.{Kind}
+use Rattle.table.specs.declared.Kind.TheVariants.{Always, And as AndKind, Or as OrKind, Against, Positive, Differ, Holds, Negation}
 use Rattle.table.specs.Tables.{Table, always, both, against, positive, differ, holds, negation}
 
 -- kind(4) operator(4) first(8) second(8) literal-first(1) zero(39)
@@ -35,6 +38,45 @@ holds_kind = 6
 
 abbrev pub negation_kind : ℕ
 negation_kind = 7
+
+-- document 01's number of each kind
+abbrev pub number_of_kind : Kind → ℕ
+number_of_kind Always = always_kind
+number_of_kind AndKind = joining_kind And
+number_of_kind OrKind = joining_kind Or
+number_of_kind Against = against_kind
+number_of_kind Positive = positive_kind
+number_of_kind Differ = differ_kind
+number_of_kind Holds = holds_kind
+number_of_kind Negation = negation_kind
+
+abbrev pub kinds : List (Option Kind)
+kinds =
+    Some Always ∷ Some AndKind ∷ Some OrKind ∷ Some Against ∷ Some Positive ∷ Some Differ ∷ Some Holds ∷ Some Negation ∷ []
+
+-- the kind of a number, if it is one's
+abbrev pub kind_named : ℕ → Option Kind
+kind_named n = get_or kinds n None
+
+pub kind_number : (k : Kind) → kind_named (number_of_kind k) ≡ Some k
+kind_number Always = refl
+kind_number AndKind = refl
+kind_number OrKind = refl
+kind_number Against = refl
+kind_number Positive = refl
+kind_number Differ = refl
+kind_number Holds = refl
+kind_number Negation = refl
+
+pub kind_below : (k : Kind) → number_of_kind k < 8
+kind_below Always = lit< tt
+kind_below AndKind = lit< tt
+kind_below OrKind = lit< tt
+kind_below Against = lit< tt
+kind_below Positive = lit< tt
+kind_below Differ = lit< tt
+kind_below Holds = lit< tt
+kind_below Negation = lit< tt
 
 abbrev pub table_word : ℕ → ℕ → ℕ → ℕ → ℕ → ℕ
 table_word kind operator first second literal_first = packed table_layout (kind ∷ operator ∷ first ∷ second ∷ literal_first ∷ 0 ∷ [])
