@@ -8,7 +8,9 @@ use Rattle.statistics.specs.declared.Statistic.{Statistic}
 use Rattle.table.specs.Tables.{Table}
 use Rattle.table.specs.Encoding.{pool_of, table_words}
 use Rattle.table.specs.Measures.{table_width}
+use Rattle.listing.specs.Listing.{list_of}
 use Rattle.writing.specs.declared.Spot.{Spot}
+use Rattle.writing.specs.declared.Writer.{Writer}
 
 -- room for n words more
 abbrev pub Wide : ℕ → Spot → List ℕ → Type 0
@@ -46,3 +48,26 @@ pub record Wrote (t : Table) (list : List Statistic) (s : Spot) (old new old_poo
   pub answer : r ≡ record { to = s.to + table_width t; off = s.off + length (pool_of t) }
   pub table : new ≡ sets old (8 * s.to) (bytes_of (table_words list s.off t))
   pub pool : new_pool ≡ sets old_pool s.off (pool_of t)
+
+-- ---- the same of a writer, before and after: it keeps its list, its table and its pool
+
+abbrev pub WideFor : ℕ → Writer → Type 0
+WideFor n w = Wide n w.at w.table.now
+
+abbrev pub RoomFor : Table → Writer → Type 0
+RoomFor t w = Room t w.at w.table.now w.pool.now
+
+abbrev pub Keeps : Writer → Writer → Type 0
+Keeps w v = (v.table.ghost_name ≡ w.table.ghost_name) × (v.pool.ghost_name ≡ w.pool.ghost_name) × (v.list ≡ w.list)
+
+-- words put, the pool as it was
+abbrev pub HeadBy : List ℕ → Writer → Writer → Type 0
+HeadBy ws w v = Head ws w.at w.table.now v.table.now v.at × (v.pool.now ≡ w.pool.now) × Keeps w v
+
+-- words put, and bytes in the pool
+abbrev pub PutBy : List ℕ → List ℕ → Writer → Writer → Type 0
+PutBy ws bs w v = Put ws bs w.at w.table.now v.table.now w.pool.now v.pool.now v.at × Keeps w v
+
+-- a table written
+abbrev pub WroteBy : Table → Writer → Writer → Type 0
+WroteBy t w v = Wrote t (list_of w.list.now) w.at w.table.now v.table.now w.pool.now v.pool.now v.at × Keeps w v

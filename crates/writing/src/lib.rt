@@ -1,18 +1,18 @@
 // Writers of a table's nodes into a lent table and a lent literal pool.
 #![tactic(auto)]
 
-ghost use Rattle.std.specs.Prelude.{◌≡◌, List, [], ◌∷◌, ℕ, ◌+◌, ◌^◌, ◌≤◌, ◌<◌, length};
+ghost use Rattle.std.specs.Prelude.{◌≡◌, [], ◌∷◌, ◌+◌, ◌^◌, ◌≤◌, ◌<◌, length};
 ghost use Rattle.std.proofs.lemmas.List.Edits.{sets};
 ghost use Rattle.literals.specs.Literals.{LiteralFits, value_of, value_bytes, value_word, bit_of};
-ghost use Rattle.statistics.specs.declared.Statistic.{Statistic as StatisticOf};
 ghost use Rattle.statistics.specs.declared.Statistic.TheVariants.{Least, Greatest};
 ghost use Rattle.table.specs.Tables.{always, both, against, holds};
 ghost use Rattle.table.specs.Comparisons.{has_blanks, has_values};
 ghost use Rattle.table.specs.Rewriting.{column_table, not_column_table};
 ghost use Rattle.table.specs.Nests.{join_word};
 ghost use Rattle.table.specs.Encoding.{table_word};
+ghost use Rattle.statistics.specs.Statistics.{place_of};
 ghost use Rattle.listing.specs.Listing.{list_of, Few};
-ghost use Rattle.writing.specs.Writing.{Wide, Room, Ready, Clipped, Head, Put, Wrote};
+ghost use Rattle.writing.specs.Writing.{Ready, Clipped, WideFor, RoomFor, HeadBy, PutBy, WroteBy};
 ghost use Rattle.writing.specs.WritingLaws.{not_word, wrap_words};
 
 use kleene::Joining;
@@ -27,6 +27,15 @@ use words::Range;
 pub struct Spot {
     pub to: usize,
     pub off: usize,
+}
+
+// Where a table is written: the statistics that its places name, the lent table and the lent pool, and how far each is written.
+#[derive(Drop)]
+pub struct Writer<'a> {
+    pub list: &'a [u8],
+    pub table: &'a mut [u8],
+    pub pool: &'a mut [u8],
+    pub at: Spot,
 }
 
 // Kinds of nodes in a rewritten table.
@@ -71,124 +80,17 @@ fn node_word(kind: u8, operator: u8, first: Place, second: Place, left: bool) ->
     wide(kind) * 1152921504606846976 + wide(operator) * 72057594037927936 + f + s + b
 }
 
-// Puts a word.
-fn put(table: &mut [u8], s: Spot, w: u64) -> Spot
-    requires { Wide 1 s table.old }
-    ensures { Head (w ∷ []) s table.old table.new result }
+// A literal whose text is cut to what a pool has.
+fn clip(input: &[u8], l: Literal) -> Literal
+    requires { LiteralFits l }
+    ensures { Clipped input.now l result }
 {
-    let to = s.to;
-    let off = s.off;
-    words::put_word(table, 8 * to, w);
-    Spot { to: to + 1, off }
-}
-
-// Puts a node's word.
-fn put_node(
-    table: &mut [u8],
-    s: Spot,
-    kind: u8,
-    operator: u8,
-    first: Place,
-    second: Place,
-    left: bool,
-) -> Spot
-    requires { (kind < 16) × (operator < 16) × Wide 1 s table.old }
-    ensures { Head (table_word kind operator first.0 second.0 (bit_of left) ∷ []) s table.old table.new result }
-{
-    put(table, s, node_word(kind, operator, first, second, left))
-}
-
-// Puts a join's word, in front of its two sides.
-pub fn put_join(table: &mut [u8], s: Spot, j: Joining) -> Spot
-    requires { Wide 1 s table.old }
-    ensures { Head (join_word j ∷ []) s table.old table.new result }
-{
-    match j {
-        Joining::And => put_node(table, s, AND, 0, Place(0), Place(0), false),
-        Joining::Or => put_node(table, s, OR, 0, Place(0), Place(0), false),
+    match l {
+        Literal::Null => l,
+        Literal::Int(_) => l,
+        Literal::Text(r) => Literal::Text(words::clip(input, r)),
+        Literal::Truth(_) => l,
     }
-}
-
-// Puts a NOT's word, in front of its table.
-pub fn put_not(table: &mut [u8], s: Spot) -> Spot
-    requires { Wide 1 s table.old }
-    ensures { Head (not_word ∷ []) s table.old table.new result }
-{
-    put_node(table, s, NEGATION, 0, Place(0), Place(0), false)
-}
-
-// Writes false or true.
-pub fn write_always(b: bool, table: &mut [u8], s: Spot) -> Spot
-    requires { Wide 1 s table.old }
-    ensures { (list : List StatisticOf) (pool : List ℕ) → Wrote (always b) list s table.old table.new pool pool result }
-{
-    put_node(table, s, ALWAYS, bit(b), Place(0), Place(0), false)
-}
-
-// Writes blanks > 0: column_has_nulls_expr.
-pub fn column_has_nulls_expr(list: &[u8], c: Column, table: &mut [u8], s: Spot) -> Spot
-    requires { Few list.now × Wide 1 s table.old }
-    ensures { (pool : List ℕ) → Wrote (has_blanks c) (list_of list.now) s table.old table.new pool pool result }
-{
-    let blanks = listing::place_of(list, Statistic::Blanks(c));
-    put_node(table, s, POSITIVE, 0, blanks, Place(0), false)
-}
-
-// Writes blanks ≠ rows: column_has_non_nulls_expr.
-pub fn column_has_non_nulls_expr(list: &[u8], c: Column, table: &mut [u8], s: Spot) -> Spot
-    requires { Few list.now × Wide 1 s table.old }
-    ensures { (pool : List ℕ) → Wrote (has_values c) (list_of list.now) s table.old table.new pool pool result }
-{
-    let blanks = listing::place_of(list, Statistic::Blanks(c));
-    let rows = listing::place_of(list, Statistic::Rows);
-    put_node(table, s, DIFFER, 0, blanks, rows, false)
-}
-
-// Writes AND and blanks ≠ rows, in front of what is wrapped: wrap_null_count_check_expr.
-pub fn wrap_null_count_check_expr(list: &[u8], c: Column, table: &mut [u8], s: Spot) -> Spot
-    requires { Few list.now × Wide 2 s table.old }
-    ensures { Head (wrap_words (list_of list.now) c) s table.old table.new result }
-{
-    let a = put_join(table, s, Joining::And);
-    let blanks = listing::place_of(list, Statistic::Blanks(c));
-    let rows = listing::place_of(list, Statistic::Rows);
-    put_node(table, a, DIFFER, 0, blanks, rows, false)
-}
-
-// Writes a truth-value statistic.
-fn write_holds(list: &[u8], x: Statistic, table: &mut [u8], s: Spot) -> Spot
-    requires { Few list.now × Wide 1 s table.old }
-    ensures { (pool : List ℕ) → Wrote (holds x) (list_of list.now) s table.old table.new pool pool result }
-{
-    let place = listing::place_of(list, x);
-    put_node(table, s, HOLDS, 0, place, Place(0), false)
-}
-
-// Writes least and greatest of a truth-value column, joined.
-fn write_bounds(list: &[u8], j: Joining, c: Column, table: &mut [u8], s: Spot) -> Spot
-    requires { Few list.now × Wide 3 s table.old }
-    ensures { (pool : List ℕ) → Wrote (both j (holds (Least c)) (holds (Greatest c))) (list_of list.now) s table.old table.new pool pool result }
-{
-    let a = put_join(table, s, j);
-    let b = write_holds(list, Statistic::Least(c), table, a);
-    write_holds(list, Statistic::Greatest(c), table, b)
-}
-
-// Writes a truth-value column's form: build_single_column_expr.
-pub fn write_column(list: &[u8], c: Column, table: &mut [u8], s: Spot) -> Spot
-    requires { Few list.now × Wide 3 s table.old }
-    ensures { (pool : List ℕ) → Wrote (column_table c) (list_of list.now) s table.old table.new pool pool result }
-{
-    write_bounds(list, Joining::Or, c, table, s)
-}
-
-// Writes the form of NOT of a truth-value column: build_single_column_expr.
-pub fn write_not_column(list: &[u8], c: Column, table: &mut [u8], s: Spot) -> Spot
-    requires { Few list.now × Wide 4 s table.old }
-    ensures { (pool : List ℕ) → Wrote (not_column_table c) (list_of list.now) s table.old table.new pool pool result }
-{
-    let a = put_not(table, s);
-    write_bounds(list, Joining::And, c, table, a)
 }
 
 // Stores a literal's bytes in the pool, and answers where they end.
@@ -212,48 +114,143 @@ fn put_bytes(input: &[u8], l: Literal, pool: &mut [u8], off: usize) -> usize
     }
 }
 
-// Puts a literal: its word, and its bytes in the pool, unshared.
-fn put_literal(input: &[u8], l: Literal, table: &mut [u8], pool: &mut [u8], s: Spot) -> Spot
-    requires { Ready input.now l × Wide 1 s table.old × (s.off + length (value_bytes (value_of input.now l)) ≤ length pool.old) × (s.off < 2 ^ 24) }
-    ensures { Put (value_word s.off (value_of input.now l) ∷ []) (value_bytes (value_of input.now l)) s table.old table.new pool.old pool.new result }
-{
-    let start = s.off;
-    let a = put(table, s, literals::literal_word(l, start));
-    let end = put_bytes(input, l, pool, start);
-    let to = a.to;
-    Spot { to, off: end }
-}
-
-// A literal whose text is cut to what a pool has.
-fn clip(input: &[u8], l: Literal) -> Literal
-    requires { LiteralFits l }
-    ensures { Clipped input.now l result }
-{
-    match l {
-        Literal::Null => l,
-        Literal::Int(_) => l,
-        Literal::Text(r) => Literal::Text(words::clip(input, r)),
-        Literal::Truth(_) => l,
+impl<'a> Writer<'a> {
+    // Puts a word.
+    fn put(&mut self, word: u64)
+        requires { WideFor 1 self.old }
+        ensures { HeadBy (word ∷ []) self.old self.new }
+    {
+        words::put_word(self.table, 8 * self.at.to, word);
+        self.at.to += 1;
     }
-}
 
-// Writes a statistic against a literal of the input pool.
-pub fn write_against(
-    list: &[u8],
-    input: &[u8],
-    o: Operator,
-    x: Statistic,
-    first: bool,
-    l: Literal,
-    table: &mut [u8],
-    pool: &mut [u8],
-    s: Spot,
-) -> Spot
-    requires { Few list.now × LiteralFits l × Room (against o x first (value_of input.now l)) s table.old pool.old }
-    ensures { Wrote (against o x first (value_of input.now l)) (list_of list.now) s table.old table.new pool.old pool.new result }
-{
-    let k = clip(input, l);
-    let place = listing::place_of(list, x);
-    let a = put_node(table, s, AGAINST, o.code(), place, Place(0), first);
-    put_literal(input, k, table, pool, a)
+    // Puts a node's word.
+    fn put_node(&mut self, kind: u8, operator: u8, first: Place, second: Place, left: bool)
+        requires { (kind < 16) × (operator < 16) × WideFor 1 self.old }
+        ensures { HeadBy (table_word kind operator first.0 second.0 (bit_of left) ∷ []) self.old self.new }
+    {
+        self.put(node_word(kind, operator, first, second, left));
+    }
+
+    // The place of a statistic in the list.
+    fn place_of(&self, x: Statistic) -> Place
+        requires { Few self.now.list.now }
+        ensures { result ≡ record { 0 = place_of x (list_of self.now.list.now) } }
+    {
+        listing::place_of(self.list, x)
+    }
+
+    // Puts a join's word, in front of its two sides.
+    pub fn put_join(&mut self, j: Joining)
+        requires { WideFor 1 self.old }
+        ensures { HeadBy (join_word j ∷ []) self.old self.new }
+    {
+        match j {
+            Joining::And => self.put_node(AND, 0, Place(0), Place(0), false),
+            Joining::Or => self.put_node(OR, 0, Place(0), Place(0), false),
+        }
+    }
+
+    // Puts a NOT's word, in front of its table.
+    pub fn put_not(&mut self)
+        requires { WideFor 1 self.old }
+        ensures { HeadBy (not_word ∷ []) self.old self.new }
+    {
+        self.put_node(NEGATION, 0, Place(0), Place(0), false);
+    }
+
+    // Writes false or true.
+    pub fn write_always(&mut self, b: bool)
+        requires { WideFor 1 self.old }
+        ensures { WroteBy (always b) self.old self.new }
+    {
+        self.put_node(ALWAYS, bit(b), Place(0), Place(0), false);
+    }
+
+    // Writes blanks > 0.
+    pub fn column_has_nulls_expr(&mut self, c: Column)
+        requires { Few self.old.list.now × WideFor 1 self.old }
+        ensures { WroteBy (has_blanks c) self.old self.new }
+    {
+        let blanks = self.place_of(Statistic::Blanks(c));
+        self.put_node(POSITIVE, 0, blanks, Place(0), false);
+    }
+
+    // Writes blanks ≠ rows.
+    pub fn column_has_non_nulls_expr(&mut self, c: Column)
+        requires { Few self.old.list.now × WideFor 1 self.old }
+        ensures { WroteBy (has_values c) self.old self.new }
+    {
+        let blanks = self.place_of(Statistic::Blanks(c));
+        let rows = self.place_of(Statistic::Rows);
+        self.put_node(DIFFER, 0, blanks, rows, false);
+    }
+
+    // Writes AND and blanks ≠ rows, in front of what is wrapped.
+    pub fn wrap_null_count_check_expr(&mut self, c: Column)
+        requires { Few self.old.list.now × WideFor 2 self.old }
+        ensures { HeadBy (wrap_words (list_of self.old.list.now) c) self.old self.new }
+    {
+        self.put_join(Joining::And);
+        let blanks = self.place_of(Statistic::Blanks(c));
+        let rows = self.place_of(Statistic::Rows);
+        self.put_node(DIFFER, 0, blanks, rows, false);
+    }
+
+    // Writes a truth-value statistic.
+    fn write_holds(&mut self, x: Statistic)
+        requires { Few self.old.list.now × WideFor 1 self.old }
+        ensures { WroteBy (holds x) self.old self.new }
+    {
+        let place = self.place_of(x);
+        self.put_node(HOLDS, 0, place, Place(0), false);
+    }
+
+    // Writes least and greatest of a truth-value column, joined.
+    fn write_bounds(&mut self, j: Joining, c: Column)
+        requires { Few self.old.list.now × WideFor 3 self.old }
+        ensures { WroteBy (both j (holds (Least c)) (holds (Greatest c))) self.old self.new }
+    {
+        self.put_join(j);
+        self.write_holds(Statistic::Least(c));
+        self.write_holds(Statistic::Greatest(c));
+    }
+
+    // Writes a truth-value column's form: build_single_column_expr.
+    pub fn write_column(&mut self, c: Column)
+        requires { Few self.old.list.now × WideFor 3 self.old }
+        ensures { WroteBy (column_table c) self.old self.new }
+    {
+        self.write_bounds(Joining::Or, c);
+    }
+
+    // Writes the form of NOT of a truth-value column: build_single_column_expr.
+    pub fn write_not_column(&mut self, c: Column)
+        requires { Few self.old.list.now × WideFor 4 self.old }
+        ensures { WroteBy (not_column_table c) self.old self.new }
+    {
+        self.put_not();
+        self.write_bounds(Joining::And, c);
+    }
+
+    // Puts a literal: its word, and its bytes in the pool, unshared.
+    fn put_literal(&mut self, input: &[u8], l: Literal)
+        requires { Ready input.now l × WideFor 1 self.old × (self.old.at.off + length (value_bytes (value_of input.now l)) ≤ length self.old.pool.now) × (self.old.at.off < 2 ^ 24) }
+        ensures { PutBy (value_word self.old.at.off (value_of input.now l) ∷ []) (value_bytes (value_of input.now l)) self.old self.new }
+    {
+        let start = self.at.off;
+        self.put(literals::literal_word(l, start));
+        self.at.off = put_bytes(input, l, self.pool, start);
+    }
+
+    // Writes a statistic against a literal of the input pool.
+    pub fn write_against(&mut self, input: &[u8], o: Operator, x: Statistic, first: bool, l: Literal)
+        requires { Few self.old.list.now × LiteralFits l × RoomFor (against o x first (value_of input.now l)) self.old }
+        ensures { WroteBy (against o x first (value_of input.now l)) self.old self.new }
+    {
+        let k = clip(input, l);
+        let place = self.place_of(x);
+        self.put_node(AGAINST, o.code(), place, Place(0), first);
+        self.put_literal(input, k);
+    }
 }
