@@ -8,6 +8,15 @@ ghost use Rattle.walking.specs.Places.{Near};
 
 use predicate::Node;
 
+// A rewriting call's schema, literal pool, predicate words and list limit.
+#[derive(Clone, Copy)]
+pub struct Request<'a> {
+    pub schema: &'a [u8],
+    pub pool: &'a [u8],
+    pub words: &'a [u8],
+    pub limit: usize,
+}
+
 // The place behind the predicate at a place.
 pub fn skip(pool: &[u8], words: &[u8], depth: usize, at: usize) -> usize
     requires { Near words.now at }
@@ -17,17 +26,13 @@ pub fn skip(pool: &[u8], words: &[u8], depth: usize, at: usize) -> usize
         return at;
     }
     match predicate::node_at(pool, words, at) {
-        Node::Constant(_) => at + 1,
+        Node::Constant(_) | Node::TruthColumn(_) | Node::IsNull(_) | Node::IsNotNull(_) => at + 1,
         Node::Join(_) => {
             let m = skip(pool, words, depth - 1, at + 1);
             skip(pool, words, depth - 1, m)
         }
         Node::Not => skip(pool, words, depth - 1, at + 1),
-        Node::TruthColumn(_) => at + 1,
-        Node::IsNull(_) => at + 1,
-        Node::IsNotNull(_) => at + 1,
-        Node::Comparison(_, _, _, _, _) => at + 2,
-        Node::List(_, _, _, count) => at + 1 + (count as usize),
-        Node::Like(_, _, _) => at + 2,
+        Node::Comparison(..) | Node::Like(..) => at + 2,
+        Node::List(_, _, _, count) => at + 1 + usize::from(count),
     }
 }
