@@ -13,8 +13,7 @@ use Rattle.text.specs.Pattern.{prefix_of, rest_of}
 use Rattle.text.proofs.Match.{prefix_utf8}
 use Rattle.text.specs.Wrote.{Wrote}
 use Rattle.text.specs.Upper.{pick, increment_of, upper_of}
-use Rattle.increment.specs.declared.End.{End}
-use Rattle.increment.specs.declared.End.TheVariants.{Until}
+use Rattle.std.specs.Prelude.{Option, Some}
 use Rattle.increment.specs.Outcome.{Outcome}
 
 -- a front written twice
@@ -38,15 +37,15 @@ module _ (p old new : List ℕ) (n : ℕ) (room : length (prefix_of false p) < l
       (rw (size, holds, l) room, subst Utf8 (sym front) (prefix_utf8 p u))
 
   -- no wildcard: the prefix is the bound
-  pub whole : length (rest_of false p) ≡ 0 → Outcome (upper_of p) (written (prefix_of false p) old) new (Until n)
+  pub whole : length (rest_of false p) ≡ 0 → Outcome (upper_of p) (written (prefix_of false p) old) new (Some n)
   whole e = go (rest_of false p) e
     where
-      go : (t : List ℕ) → length t ≡ 0 → Outcome (pick t (prefix_of false p) (increment_of (prefix_of false p))) (written (prefix_of false p) old) new (Until n)
-      go [] e = record { end = ap Until size; out = holds ∙ sym (written_twice (prefix_of false p) old) }
+      go : (t : List ℕ) → length t ≡ 0 → Outcome (pick t (prefix_of false p) (increment_of (prefix_of false p))) (written (prefix_of false p) old) new (Some n)
+      go [] e = record { end = ap Some size; out = holds ∙ sym (written_twice (prefix_of false p) old) }
       go (x ∷ t) e = absurd (omega arith)
 
   -- a wildcard: the increment is the bound
-  pub risen : (length (rest_of false p) ≡ 0 → ⊥) → (last : List ℕ) (r : End) → Outcome (increment_of (take n new)) new last r
+  pub risen : (length (rest_of false p) ≡ 0 → ⊥) → (last : List ℕ) (r : Option ℕ) → Outcome (increment_of (take n new)) new last r
       → Outcome (upper_of p) (written (prefix_of false p) old) last r
   risen h last r i = go (rest_of false p) h
     where

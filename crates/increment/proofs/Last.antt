@@ -10,18 +10,17 @@ use Rattle.text.specs.Utf8.{Text, Utf8, encode, bytes_of, bytes_append, shape, s
 use Rattle.text.specs.Increment.{rise, rise_here, rise_back}
 use Rattle.text.specs.Chars.{chars_of, bytes_chars}
 use Rattle.increment.specs.Walk.{start_at, decode_at}
-use Rattle.increment.specs.declared.Next.TheVariants.{To, Nothing}
-use Rattle.increment.specs.declared.Rise.TheVariants.{At, Never}
+use Rattle.std.specs.Prelude.{Some, None}
 use Rattle.increment.specs.Outcome.{next_of, place_of}
 use Rattle.increment.proofs.Walk.{start_in, some_bytes, decode_in}
 
 -- ---- answers
 
-to_some : (o : Option ℕ) (n : ℕ) → next_of o ≡ To n → o ≡ some n
+to_some : (o : Option ℕ) (n : ℕ) → next_of o ≡ Some n → o ≡ some n
 to_some none n e = let z : ◌≡◌ {A = ℕ} 0 1 = cc in absurd (omega arith)
 to_some (some d) n e = cc
 
-nothing_none : (o : Option ℕ) → next_of o ≡ Nothing → o ≡ none
+nothing_none : (o : Option ℕ) → next_of o ≡ None → o ≡ none
 nothing_none none e = refl
 nothing_none (some d) e = let z : ◌≡◌ {A = ℕ} 0 1 = cc in absurd (omega arith)
 
@@ -117,13 +116,13 @@ module _ (f : ℕ → Option ℕ) (s : List ℕ) (end at d : ℕ) (some' : 0 < e
   d_is = code_is s (bytes_of last.init) (drop end s) last.c end at d last.whole last.size last.top place code
 
   -- the last character can be raised
-  pub found : (n : ℕ) → next_of (f d) ≡ To n → At at n ≡ place_of (rise f (chars_of s))
+  pub found : (n : ℕ) → next_of (f d) ≡ Some n → Some (at, n) ≡ place_of (rise f (chars_of s))
   found n e =
       let r : f last.c ≡ some n = to_some (f last.c) n (sym (ap (λ x. next_of (f x)) d_is) ∙ e) in
-      ap (λ x. At x n) at_is ∙ sym (ap place_of (k.same ∙ ap (rise f) last.is ∙ rise_here f last.init last.c n r))
+      ap (λ x. Some (x, n)) at_is ∙ sym (ap place_of (k.same ∙ ap (rise f) last.is ∙ rise_here f last.init last.c n r))
 
   -- it cannot: one character back
-  pub onward : next_of (f d) ≡ Nothing → Front f s at
+  pub onward : next_of (f d) ≡ None → Front f s at
   onward e =
       let r : f last.c ≡ none = nothing_none (f last.c) (sym (ap (λ x. next_of (f x)) d_is) ∙ e) in
       record {
@@ -134,7 +133,7 @@ module _ (f : ℕ → Option ℕ) (s : List ℕ) (end at d : ℕ) (some' : 0 < e
       }
 
 -- no character is left
-pub finished : (f : ℕ → Option ℕ) (s : List ℕ) (end : ℕ) → end ≤ 0 → Front f s end → Never ≡ place_of (rise f (chars_of s))
+pub finished : (f : ℕ → Option ℕ) (s : List ℕ) (end : ℕ) → end ≤ 0 → Front f s end → None ≡ place_of (rise f (chars_of s))
 unfolding rise
 finished f s end h k =
     let z : end ≡ 0 = omega arith in

@@ -5,16 +5,16 @@ use Prim.Native.Nat.{ℕ, suc, ◌+◌}
 use native.Mathlib.Numerals.{add-one}
 use Rattle.text.specs.Increment.{allowed, raised}
 use Rattle.text.specs.Upper.{rule}
-use Rattle.increment.specs.declared.Next.TheVariants.{To, Nothing}
+use Rattle.std.specs.Prelude.{Some, None}
 use Rattle.increment.specs.Outcome.{next_of}
 
-pub next_to : (c : ℕ) → allowed (c + 1) ≡ true → next_of (rule c) ≡ To (c + 1)
+pub next_to : (c : ℕ) → allowed (c + 1) ≡ true → next_of (rule c) ≡ Some (c + 1)
 unfolding raised
 next_to c e =
     let h : allowed (suc c) ≡ true = rw add-one at e in
     rw (h, add-one)
 
-pub next_none : (c : ℕ) → allowed (c + 1) ≡ false → next_of (rule c) ≡ Nothing
+pub next_none : (c : ℕ) → allowed (c + 1) ≡ false → next_of (rule c) ≡ None
 unfolding raised
 next_none c e =
     let h : allowed (suc c) ≡ false = rw add-one at e in

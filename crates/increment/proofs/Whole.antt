@@ -11,8 +11,7 @@ use Rattle.text.specs.Utf8.{Utf8, encode, bytes_of, bytes_append, scalar_top}
 use Rattle.text.specs.Increment.{Raises, Raise, rise, rise_room, rise_front, rise_scalar, increment_rise}
 use Rattle.text.specs.Chars.{chars_of, bytes_chars, incremented}
 use Rattle.text.specs.Wrote.{Wrote}
-use Rattle.increment.specs.declared.Rise.TheVariants.{At, Never}
-use Rattle.increment.specs.declared.End.TheVariants.{Until, Absent}
+use Rattle.std.specs.Prelude.{Some, None}
 use Rattle.increment.specs.Outcome.{place_of, Outcome}
 
 -- what an answer of the search says of the parts
@@ -23,11 +22,13 @@ record Placed (o : Option Raise) (at d : ℕ) : Type 0 where
   place : at ≡ length (bytes_of x.kept)
   top : d ≡ x.top
 
-placed : (o : Option Raise) (at d : ℕ) → At at d ≡ place_of o → Placed o at d
+placed : (o : Option Raise) (at d : ℕ) → Some (at, d) ≡ place_of o → Placed o at d
 placed none at d e = let z : ◌≡◌ {A = ℕ} 0 1 = cc in absurd (omega arith)
-placed (some x) at d e = record { x = x; is = refl; place = cc; top = cc }
+placed (some x) at d e =
+    let p : (at, d) ≡ (length (bytes_of x.kept), x.top) = cc in
+    record { x = x; is = refl; place = ap (λ (q : ℕ × ℕ). q.0) p; top = ap (λ (q : ℕ × ℕ). q.1) p }
 
-unplaced : (o : Option Raise) → Never ≡ place_of o → o ≡ none
+unplaced : (o : Option Raise) → None ≡ place_of o → o ≡ none
 unplaced none e = refl
 unplaced (some x) e = let z : ◌≡◌ {A = ℕ} 0 1 = cc in absurd (omega arith)
 
@@ -66,7 +67,7 @@ module _ (f : ℕ → Option ℕ) (rs : Raises f) (old : List ℕ) (len : ℕ) (
 
 -- the search found a character to raise
 module _ (f : ℕ → Option ℕ) (rs : Raises f) (old : List ℕ) (len at d : ℕ) (room : len < length old) (u : Utf8 (take len old))
-    (e : At at d ≡ place_of (rise f (chars_of (take len old)))) where
+    (e : Some (at, d) ≡ place_of (rise f (chars_of (take len old)))) where
   -- it can be stored
   pub fits : (at + length (encode d) ≤ length old) × (d < 0x110000)
   fits = let p = placed _ at d e in go p.x p.is p.place p.top
@@ -78,21 +79,21 @@ module _ (f : ℕ → Option ℕ) (rs : Raises f) (old : List ℕ) (len at d : �
           rw (g, h) (space f rs old len room (chars_of (take len old)) b x is, top f rs old len room (chars_of (take len old)) b x is)
 
   -- and once it is, the front is the increment
-  pub raised_bytes : (new : List ℕ) (n : ℕ) → Wrote (encode d) at old new n → Outcome (incremented f (take len old)) old new (Until n)
+  pub raised_bytes : (new : List ℕ) (n : ℕ) → Wrote (encode d) at old new n → Outcome (incremented f (take len old)) old new (Some n)
   unfolding incremented
   raised_bytes new n w = let p = placed _ at d e in go p.x p.is p.place p.top
     where
       go : (x : Raise) → rise f (chars_of (take len old)) ≡ some x → at ≡ length (bytes_of x.kept) → d ≡ x.top
-          → Outcome (incremented f (take len old)) old new (Until n)
+          → Outcome (incremented f (take len old)) old new (Some n)
       go x is g h =
           let b = (bytes_chars (take len old) u).1 in
           rw (increment_rise f (chars_of (take len old)), is)
           (record {
-            end = ap Until (w.end ∙ rw (g, h, length_whole f rs old len room (chars_of (take len old)) b x is));
+            end = ap Some (w.end ∙ rw (g, h, length_whole f rs old len room (chars_of (take len old)) b x is));
             out = w.out ∙ rw (g, h) (whole f rs old len room (chars_of (take len old)) b x is);
           })
 
 -- the search found none: nothing is changed
-pub unraised_bytes : (f : ℕ → Option ℕ) (old bs : List ℕ) → Never ≡ place_of (rise f (chars_of bs)) → Outcome (incremented f bs) old old Absent
+pub unraised_bytes : (f : ℕ → Option ℕ) (old bs : List ℕ) → None ≡ place_of (rise f (chars_of bs)) → Outcome (incremented f bs) old old None
 unfolding incremented
 unraised_bytes f old bs e = rw (increment_rise f (chars_of bs), unplaced (rise f (chars_of bs)) e) (record { end = refl; out = refl })

@@ -13,12 +13,12 @@ slice_bounds-find_rise-end-2 c =
 
 pub put_char-end-requires : goal.put_char-end-requires
 put_char-end-requires c =
-    fits rule rule_raises c.args.text.now c.args.len _ _ c.requires.0 c.requires.1 (sym c.in-At.is ∙ c.find_rise-x.ensures)
+    fits rule rule_raises c.args.text.now c.args.len _ _ c.requires.0 c.requires.1 (sym c.in-Some.is ∙ c.find_rise-x.ensures)
 
-pub returns-in-At : goal.returns-in-At
-returns-in-At c =
-    raised_bytes rule rule_raises c.args.text.now c.args.len _ _ c.requires.0 c.requires.1 (sym c.in-At.is ∙ c.find_rise-x.ensures) _ _ c.put_char-end.ensures
+pub returns-in-Some : goal.returns-in-Some
+returns-in-Some c =
+    raised_bytes rule rule_raises c.args.text.now c.args.len _ _ c.requires.0 c.requires.1 (sym c.in-Some.is ∙ c.find_rise-x.ensures) _ _ c.put_char-end.ensures
 
-pub returns-in-Never : goal.returns-in-Never
-returns-in-Never c =
-    unraised_bytes rule c.args.text.now _ (sym c.in-Never.is ∙ c.find_rise-x.ensures)
+pub returns-in-None : goal.returns-in-None
+returns-in-None c =
+    unraised_bytes rule c.args.text.now _ (sym c.in-None.is ∙ c.find_rise-x.ensures)
