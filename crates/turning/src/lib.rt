@@ -1,37 +1,47 @@
 // Comparisons turned: the literal to the right, the flips off the column.
 #![tactic(auto)]
 
-ghost use Rattle.std.specs.Prelude.{◌≡◌, cond};
-ghost use Rattle.operators.specs.Operators.{swap_of};
-ghost use Rattle.table.specs.Comparisons.{minuses, flip_once, truth_flips, no_flips, flipped, unturned, turned};
-ghost use Rattle.turning.specs.Turns.{has_swap, Turns, Negates};
+ghost use Rattle.std.specs.Prelude.{◌≡◌};
+ghost use Rattle.table.specs.Comparisons.{asks, minus, minuses, flip_once, truth_flips, no_flips, flipped, unturned, turned};
+ghost use Rattle.turning.specs.Turns.{Turns, Negates};
 
 use literals::{Literal, Negated};
 use operators::Operator;
 
-// An operator against a literal on its right, or unhandled.
+// An operator against a literal on its right.
 #[derive(Clone, Copy)]
-pub enum Turned {
-    Against(Operator, Literal),
-    Unhandled,
+pub struct Against {
+    pub operator: Operator,
+    pub literal: Literal,
 }
 
-// Flips of an integer column: each negates the literal and swaps, -2^63 caught first.
-fn take_minuses(flips: u8, o: Operator, l: Literal) -> Turned
-    ensures { Turns (minuses flips o) l result }
+// One flip of an integer column: it negates the literal and swaps the operator, -2^63 caught first.
+fn take_minus(a: Against) -> Option<Against>
+    ensures { Turns (minus asks a.operator) a.literal result }
 {
-    if flips == 0 {
-        return Turned::Against(o, l);
-    }
-    match l {
-        Literal::Null => take_minuses(flips - 1, o.swap(), Literal::Null),
+    let literal = match a.literal {
+        Literal::Null => Literal::Null,
         Literal::Int(x) => match literals::negate(x) {
-            Negated::To(y) => take_minuses(flips - 1, o.swap(), Literal::Int(y)),
-            Negated::Unhandled => Turned::Unhandled,
+            Negated::To(y) => Literal::Int(y),
+            Negated::Unhandled => return None,
         },
-        Literal::Text(_) => Turned::Unhandled,
-        Literal::Truth(_) => Turned::Unhandled,
+        Literal::Text(_) | Literal::Truth(_) => return None,
+    };
+    Some(Against {
+        operator: a.operator.swap(),
+        literal,
+    })
+}
+
+// Flips of an integer column.
+fn take_minuses(flips: u8, a: Against) -> Option<Against>
+    ensures { Turns (minuses flips a.operator) a.literal result }
+{
+    let mut turned = a;
+    for _ in 0..flips {
+        turned = take_minus(turned)?;
     }
+    Some(turned)
 }
 
 // A literal with its truth value negated.
@@ -39,104 +49,81 @@ fn negate_truth(l: Literal) -> Literal
     ensures { Negates l result }
 {
     match l {
-        Literal::Null => Literal::Null,
-        Literal::Int(x) => Literal::Int(x),
-        Literal::Text(r) => Literal::Text(r),
         Literal::Truth(b) => Literal::Truth(!b),
+        _ => l,
     }
 }
 
-// One flip of a truth-value column.
-fn take_not(o: Operator, l: Literal) -> Turned
-    ensures { Turns (flip_once o) l result }
+// One flip of a truth-value column: it negates the literal of = and ≠.
+fn take_not(a: Against) -> Option<Against>
+    ensures { Turns (flip_once a.operator) a.literal result }
 {
-    match o {
-        Operator::Equal => Turned::Against(Operator::Equal, negate_truth(l)),
-        Operator::NotEqual => Turned::Against(Operator::NotEqual, negate_truth(l)),
-        Operator::Below => Turned::Unhandled,
-        Operator::AtMost => Turned::Unhandled,
-        Operator::Above => Turned::Unhandled,
-        Operator::AtLeast => Turned::Unhandled,
-        Operator::Distinct => Turned::Unhandled,
-        Operator::NotDistinct => Turned::Unhandled,
+    match a.operator {
+        Operator::Equal | Operator::NotEqual => Some(Against {
+            literal: negate_truth(a.literal),
+            ..a
+        }),
+        _ => None,
     }
 }
 
-// Flips of a truth-value column: one negates the literal of = and ≠.
-fn take_nots(flips: u8, o: Operator, l: Literal) -> Turned
-    ensures { Turns (truth_flips flips o) l result }
+// Flips of a truth-value column.
+fn take_nots(flips: u8, a: Against) -> Option<Against>
+    ensures { Turns (truth_flips flips a.operator) a.literal result }
 {
-    if flips == 0 {
-        return Turned::Against(o, l);
+    match flips {
+        0 => Some(a),
+        1 => take_not(a),
+        _ => None,
     }
-    if flips == 1 {
-        return take_not(o, l);
-    }
-    Turned::Unhandled
 }
 
 // Flips of a column that has none.
-fn take_none(flips: u8, o: Operator, l: Literal) -> Turned
-    ensures { Turns (no_flips flips o) l result }
+fn take_none(flips: u8, a: Against) -> Option<Against>
+    ensures { Turns (no_flips flips a.operator) a.literal result }
 {
-    if flips == 0 {
-        return Turned::Against(o, l);
-    }
-    Turned::Unhandled
+    if flips == 0 { Some(a) } else { None }
 }
 
 // Flips by the column's type.
-fn take_flips(kind: u8, flips: u8, o: Operator, l: Literal) -> Turned
-    ensures { Turns (flipped kind flips o) l result }
+fn take_flips(kind: u8, flips: u8, a: Against) -> Option<Against>
+    ensures { Turns (flipped kind flips a.operator) a.literal result }
 {
-    if kind == Literal::INTEGER {
-        return take_minuses(flips, o, l);
+    match kind {
+        Literal::INTEGER => take_minuses(flips, a),
+        Literal::TRUTH => take_nots(flips, a),
+        _ => take_none(flips, a),
     }
-    if kind == Literal::TRUTH {
-        return take_nots(flips, o, l);
-    }
-    take_none(flips, o, l)
-}
-
-// Whether an operator has a swap: the distinct-froms have none.
-fn has_swap(o: Operator) -> bool
-    ensures { result ≡ has_swap o }
-{
-    match o {
-        Operator::Equal => true,
-        Operator::NotEqual => true,
-        Operator::Below => true,
-        Operator::AtMost => true,
-        Operator::Above => true,
-        Operator::AtLeast => true,
-        Operator::Distinct => false,
-        Operator::NotDistinct => false,
-    }
-}
-
-// The operator with the literal on its right: reverse_operator.
-fn operator_first(first: bool, o: Operator) -> Operator
-    ensures { result ≡ cond first (swap_of o) o }
-{
-    if first { o.swap() } else { o }
 }
 
 // An operator that has no swap: handled as it stands only.
-fn keep(flips: u8, first: bool, o: Operator, l: Literal) -> Turned
-    ensures { Turns (unturned flips first o) l result }
+fn keep(flips: u8, first: bool, a: Against) -> Option<Against>
+    ensures { Turns (unturned flips first a.operator) a.literal result }
 {
-    if first {
-        return Turned::Unhandled;
-    }
-    take_none(flips, o, l)
+    if first || flips > 0 { None } else { Some(a) }
 }
 
-// A comparison turned: rewrite_expr_to_prunable.
-pub fn turn(kind: u8, o: Operator, flips: u8, first: bool, l: Literal) -> Turned
+// A comparison turned: rewrite_expr_to_prunable; a literal on the left is put right by reverse_operator.
+pub fn turn(kind: u8, o: Operator, flips: u8, first: bool, l: Literal) -> Option<Against>
     ensures { Turns (turned kind o flips first) l result }
 {
-    if has_swap(o) {
-        return take_flips(kind, flips, operator_first(first, o), l);
+    if matches!(o, Operator::Distinct | Operator::NotDistinct) {
+        return keep(
+            flips,
+            first,
+            Against {
+                operator: o,
+                literal: l,
+            },
+        );
     }
-    keep(flips, first, o, l)
+    let operator = if first { o.swap() } else { o };
+    take_flips(
+        kind,
+        flips,
+        Against {
+            operator,
+            literal: l,
+        },
+    )
 }
