@@ -13,13 +13,6 @@ ghost use Rattle.cells.specs.Columns.{column_fine, ColumnRoom};
 use literals::Literal;
 use statistics::Statistic;
 
-// A count of blanks or rows, read unsigned.
-#[derive(Clone, Copy)]
-pub enum Count {
-    Absent,
-    Of(u64),
-}
-
 // The type of a statistic's cells: its column's for a least or greatest value, an integer for a count.
 fn cell_type(schema: &[u8], s: Statistic) -> u8
     ensures { result ≡ cell_type schema.now s }
@@ -159,12 +152,12 @@ pub fn number_of(pool: &[u8], w: u64) -> u64
     words::padded_word(pool, at)
 }
 
-// The count that a cell holds.
-pub fn count_at(pool: &[u8], w: u64) -> Count
+// The count of blanks or rows that a cell holds, read unsigned; none if the cell is absent.
+pub fn count_at(pool: &[u8], w: u64) -> Option<u64>
     ensures { count_value result ≡ count_at pool.now w }
 {
     if literals::type_of(w) == Literal::NULL {
-        return Count::Absent;
+        return None;
     }
-    Count::Of(number_of(pool, w))
+    Some(number_of(pool, w))
 }

@@ -1,7 +1,7 @@
 -- A checked table is ready to be evaluated. Assumes nothing.
 use Rattle.std.proofs.Math.Path.{◌≡◌, refl, sym, ap}
 use Rattle.std.proofs.Common.{◌∙◌, arith}
-use Rattle.std.specs.Prelude.{Bool, cond, not, ◌&&◌, ◌||◌, length, get_or, leb, ltb}
+use Rattle.std.specs.Prelude.{Bool, Option, None, Some, cond, not, ◌&&◌, ◌||◌, length, get_or, leb, ltb}
 use Rattle.std.proofs.Math.Bool.{true, false, false≢true}
 use mathlib.Core.List.{List, [], ◌∷◌}
 use Prim.Native.Nat.{ℕ, zero, suc, ◌+◌, ◌%◌, ◌^◌, ◌≤◌, ◌<◌}
@@ -31,8 +31,6 @@ use Rattle.pruning.specs.TableReading as Reading
 use Rattle.pruning.specs.TableChecking.{statistic_fine, stands_in, statistics_fine, guarantees_fine, table_shape_of, table_formed, is_bound, is_blanks, is_rows, named, table_named, table_node_fine, table_behind, then_at, check_table_from, ends, table_fine, words_within, checked_table}
 use Rattle.pruning.specs.declared.TableNode.{TableNode}
 use Rattle.pruning.specs.declared.TableNode.TheVariants.{Always, Join, Against, Positive, Differ, Holds, Negation}
-use Rattle.pruning.specs.declared.Reached.{Reached}
-use Rattle.pruning.specs.declared.Reached.TheVariants.{Broken, At}
 use Rattle.comparing.specs.Comparing.{Asks}
 use Rattle.cells.specs.Grids.{list_of}
 use Rattle.evaluating.specs.Rows.{NamedAt}
@@ -90,7 +88,7 @@ module _ (pool : List ℕ) (w l : ℕ) where
 
 -- ---- a checked table
 
-never_at : {A : Type 0} (m : ℕ) → Broken ≡ At m → A
+never_at : {A : Type 0} (m : ℕ) → None ≡ Some m → A
 never_at m e = let z : ◌≡◌ {A = ℕ} 0 1 = cc in absurd (omega arith)
 
 module _ (schema : List ℕ) (list : List Statistic) (pool ws : List ℕ) where
@@ -101,19 +99,19 @@ module _ (schema : List ℕ) (list : List Statistic) (pool ws : List ℕ) where
 
   -- of a node, from what is behind it; the children's tables are ready
   module _ (d at m : ℕ)
-      (ih : (at m : ℕ) → check_table_from schema list pool ws d at ≡ At m → TableReady list pool ws d at × (behind list pool ws d at ≡ m)) where
-    joined : (r : Reached) → check_table_from schema list pool ws d (at + 1) ≡ r
-        → then_at schema list pool ws (check_table_from schema list pool ws d) r ≡ At m
+      (ih : (at m : ℕ) → check_table_from schema list pool ws d at ≡ Some m → TableReady list pool ws d at × (behind list pool ws d at ≡ m)) where
+    joined : (r : Option ℕ) → check_table_from schema list pool ws d (at + 1) ≡ r
+        → then_at schema list pool ws (check_table_from schema list pool ws d) r ≡ Some m
         → (TableReady list pool ws d (at + 1) × TableReady list pool ws d (behind list pool ws d (at + 1)))
         × (behind list pool ws d (behind list pool ws d (at + 1)) ≡ m)
-    joined Broken f e = never_at m e
-    joined (At k) f e =
+    joined None f e = never_at m e
+    joined (Some k) f e =
         let l = ih (at + 1) k f in
         let r = ih k m e in
         ((l.0, rw l.1 r.0), rw l.1 r.1)
 
     node_ready : (n : TableNode) → n ≡ table_node_at pool ws at → table_formed (get_or ws at 0) ≡ true → table_named schema list pool ws at n ≡ true
-        → table_behind schema list pool ws (check_table_from schema list pool ws d) at n ≡ At m
+        → table_behind schema list pool ws (check_table_from schema list pool ws d) at n ≡ Some m
         → NodeReady list (TableReady list pool ws d) (behind list pool ws d) at n × ((node_table (table_at list pool ws d) list pool at n).next ≡ m)
     node_ready (Always b) q f t e = (tt, cc)
     node_ready (Join j) q f t e = joined (check_table_from schema list pool ws d (at + 1)) refl e
@@ -130,7 +128,7 @@ module _ (schema : List ℕ) (list : List Statistic) (pool ws : List ℕ) where
     node_ready Negation q f t e = ih (at + 1) m e
 
     fine_ready : (b : Bool) → table_node_fine schema list pool ws at ≡ b
-        → cond b (table_behind schema list pool ws (check_table_from schema list pool ws d) at (table_node_at pool ws at)) Broken ≡ At m
+        → cond b (table_behind schema list pool ws (check_table_from schema list pool ws d) at (table_node_at pool ws at)) None ≡ Some m
         → TableReady list pool ws (suc d) at × (behind list pool ws (suc d) at ≡ m)
     unfolding TableReady table_at
     fine_ready true f e =
@@ -141,7 +139,7 @@ module _ (schema : List ℕ) (list : List Statistic) (pool ws : List ℕ) where
         ((ltb-true at (length ws) a.0, r.0), r.1)
     fine_ready false f e = never_at m e
 
-  reached : (d at m : ℕ) → check_table_from schema list pool ws d at ≡ At m → TableReady list pool ws d at × (behind list pool ws d at ≡ m)
+  reached : (d at m : ℕ) → check_table_from schema list pool ws d at ≡ Some m → TableReady list pool ws d at × (behind list pool ws d at ≡ m)
   unfolding check_table_from
   reached zero at m e = never_at m e
   reached (suc d) at m e = fine_ready d at m (reached d) (table_node_fine schema list pool ws at) refl e
@@ -150,9 +148,9 @@ module _ (schema : List ℕ) (list : List Statistic) (pool ws : List ℕ) where
   unfolding table_fine
   table_ready e = go (check_table_from schema list pool ws max_table_depth 0) refl e
     where
-      go : (r : Reached) → check_table_from schema list pool ws max_table_depth 0 ≡ r → ends schema list pool ws r ≡ true → TableReady list pool ws max_table_depth 0
-      go Broken f e = absurd (false≢true e)
-      go (At m) f e = (reached max_table_depth 0 m f).0
+      go : (r : Option ℕ) → check_table_from schema list pool ws max_table_depth 0 ≡ r → ends schema list pool ws r ≡ true → TableReady list pool ws max_table_depth 0
+      go None f e = absurd (false≢true e)
+      go (Some m) f e = (reached max_table_depth 0 m f).0
 
 -- ---- a checked statistics list
 

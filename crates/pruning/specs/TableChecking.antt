@@ -1,5 +1,5 @@
 -- Checked tables: the rules for a table, its statistics list and its guarantees, all refused by one number. Assumes nothing.
-use Rattle.std.specs.Prelude.{Bool, true, false, cond, not, ◌&&◌, ◌||◌, List, [], ◌∷◌, ℕ, zero, suc, ◌+◌, ◌%◌, length, get_or, eqb, leb, ltb}
+use Rattle.std.specs.Prelude.{Bool, true, false, cond, not, Option, None, Some, ◌&&◌, ◌||◌, List, [], ◌∷◌, ℕ, zero, suc, ◌+◌, ◌%◌, length, get_or, eqb, leb, ltb}
 use Rattle.limits.specs.Limits.{max_table_text_bytes, max_table_depth, table_room, table_pool_room, statistics_room, guarantees_room}
 use Rattle.words.specs.Word.{words_of}
 use Rattle.literals.specs.Literals.{length_of, plain, suits, truth_type}
@@ -12,8 +12,6 @@ use Rattle.guarantees.specs.Guarantees as Guarantees
 use Rattle.pruning.specs.TableReading.{kind_of, operator_field, first_field, second_field, literal_first_field, zero_field, statistic_at, table_node_at}
 use Rattle.pruning.specs.declared.TableNode.{TableNode}
 use Rattle.pruning.specs.declared.TableNode.TheVariants.{Always, Join, Against, Positive, Differ, Holds, Negation}
-use Rattle.pruning.specs.declared.Reached.{Reached}
-use Rattle.pruning.specs.declared.Reached.TheVariants.{Broken, At}
 
 -- ---- a statistics list
 
@@ -122,28 +120,28 @@ module _ (schema : List ℕ) (list : List Statistic) (pool ws : List ℕ) where
   abbrev pub table_node_fine : ℕ → Bool
   table_node_fine at = ltb at (length ws) && (table_formed (get_or ws at 0) && table_named at (table_node_at pool ws at))
 
-  abbrev pub then_at : (ℕ → Reached) → Reached → Reached
-  then_at f Broken = Broken
-  then_at f (At m) = f m
+  abbrev pub then_at : (ℕ → Option ℕ) → Option ℕ → Option ℕ
+  then_at f None = None
+  then_at f (Some m) = f m
 
   -- what stands behind a node's word, f checking its children
-  abbrev pub table_behind : (ℕ → Reached) → ℕ → TableNode → Reached
-  table_behind f at (Always b) = At (at + 1)
+  abbrev pub table_behind : (ℕ → Option ℕ) → ℕ → TableNode → Option ℕ
+  table_behind f at (Always b) = Some (at + 1)
   table_behind f at (Join j) = then_at f (f (at + 1))
-  table_behind f at (Against o p b l) = At (at + 2)
-  table_behind f at (Positive p) = At (at + 1)
-  table_behind f at (Differ p q) = At (at + 1)
-  table_behind f at (Holds p) = At (at + 1)
+  table_behind f at (Against o p b l) = Some (at + 2)
+  table_behind f at (Positive p) = Some (at + 1)
+  table_behind f at (Differ p q) = Some (at + 1)
+  table_behind f at (Holds p) = Some (at + 1)
   table_behind f at Negation = f (at + 1)
 
   -- one table, with a depth left
-  unfoldable pub check_table_from : ℕ → ℕ → Reached
-  check_table_from zero at = Broken
-  check_table_from (suc d) at = cond (table_node_fine at) (table_behind (check_table_from d) at (table_node_at pool ws at)) Broken
+  unfoldable pub check_table_from : ℕ → ℕ → Option ℕ
+  check_table_from zero at = None
+  check_table_from (suc d) at = cond (table_node_fine at) (table_behind (check_table_from d) at (table_node_at pool ws at)) None
 
-  abbrev pub ends : Reached → Bool
-  ends Broken = false
-  ends (At m) = eqb m (length ws)
+  abbrev pub ends : Option ℕ → Bool
+  ends None = false
+  ends (Some m) = eqb m (length ws)
 
   -- one prefix tree, nothing over
   unfoldable pub table_fine : Bool

@@ -1,6 +1,6 @@
 -- A table, a statistics list and guarantees that keep their bounds, written in bytes: what was written is read back, and is accepted as a
 -- checked table. Assumes nothing.
-use Rattle.std.specs.Prelude.{◌≡◌, Bool, true, false, ◌&&◌, ◌||◌, get_or, eqb, ltb}
+use Rattle.std.specs.Prelude.{◌≡◌, Bool, true, false, Option, Some, ◌&&◌, ◌||◌, get_or, eqb, ltb}
 use Rattle.std.proofs.Math.Path.{refl, ap}
 use Rattle.std.proofs.Common.{sym, ◌∙◌, sub-one, length-drop, lit<}
 use mathlib.Core.List.{List, [], ◌∷◌, ◌++◌, append_assoc, append-nil}
@@ -39,8 +39,6 @@ use Rattle.pruning.specs.TableChecking.{statistic_fine, stands_in, statistics_fi
 use Rattle.pruning.specs.RoundTrip.{always_node, join_node, against_node, positive_node, differ_node, holds_node, negation_node, word_here_lem, word_next, skip, table_back}
 use Rattle.pruning.specs.declared.TableNode.{TableNode}
 use Rattle.pruning.specs.declared.TableNode.TheVariants.{Always, Join, Negation}
-use Rattle.pruning.specs.declared.Reached.{Reached}
-use Rattle.pruning.specs.declared.Reached.TheVariants.{At}
 
 -- ---- literals
 
@@ -172,7 +170,7 @@ rows_sort (Blanks c) h = absurd (omega arith)
 rows_sort Rows h = refl
 
 module _ (schema : List ℕ) (list : List Statistic) (most : length list ≤ 256) (pool ws : List ℕ) where
-  abbrev check : ℕ → ℕ → Reached
+  abbrev check : ℕ → ℕ → Option ℕ
   check = check_table_from schema list pool ws
 
   here_inside : (at w : ℕ) (xs : List ℕ) → drop at ws ≡ w ∷ xs → at + 1 + length xs ≡ length ws
@@ -191,7 +189,7 @@ module _ (schema : List ℕ) (list : List Statistic) (most : length list ≤ 256
 
   -- a table's words at a place are checked to their end
   check_back : (t : Table) (o d at : ℕ) (rest : List ℕ) → table_height t ≤ d → Names (λ s. Listed s list) t → Proper schema t
-      → o + length (pool_of t) ≤ length pool → length pool < 2 ^ 24 → drop at ws ≡ table_words list o t ++ rest → check d at ≡ At (at + table_width t)
+      → o + length (pool_of t) ≤ length pool → length pool < 2 ^ 24 → drop at ws ≡ table_words list o t ++ rest → check d at ≡ Some (at + table_width t)
   unfolding table_words pool_of
   check_back (always b) o d at rest h n p m q k =
       check_here d at (table_word always_kind (bit_of b) 0 0 0) rest (Always b) h k (always_node pool (get_or rest 0 0) b) (always_formed b) refl
@@ -208,7 +206,7 @@ module _ (schema : List ℕ) (list : List Statistic) (most : length list ≤ 256
       let hl = check_back l o (d - 1) (at + 1) (b ++ rest) (omega arith) n.0 p.0 (omega arith) q fl in
       let hr = check_back r i (d - 1) c rest (omega arith) n.1 p.1 (omega arith) q fr in
       check_here d at w (a ++ (b ++ rest)) (Join j) (omega arith) f (join_node pool (get_or (a ++ (b ++ rest)) 0 0) j) (join_formed j) refl
-      ∙ rw (hl, hr) (ap At (omega arith))
+      ∙ rw (hl, hr) (ap Some (omega arith))
   check_back (against op s b v) o d at rest h n p m q k =
       let x : ℕ = place_of s list in
       let y : ℕ = table_word against_kind (code_of op) x 0 (bit_of b) in
@@ -247,7 +245,7 @@ module _ (schema : List ℕ) (list : List Statistic) (most : length list ≤ 256
       let hr = check_back t o (d - 1) (at + 1) rest (omega arith) n p m q f in
       check_here d at w xs Negation (omega arith) k (negation_node pool (get_or xs 0 0))
       (naming_formed negation_kind 0 0 (lit< tt) (lit< tt) (lit< tt) refl) refl
-      ∙ rw hr (ap At (omega arith))
+      ∙ rw hr (ap Some (omega arith))
 
 -- ---- all of it
 

@@ -29,13 +29,6 @@ pub enum TableNode {
     Negation,
 }
 
-// Whether a table breaks a rule, or the place of the word behind it.
-#[derive(Clone, Copy)]
-pub enum Reached {
-    Broken,
-    At(usize),
-}
-
 // A table word's kind.
 pub fn kind_of(w: u64) -> u8
     ensures { result ≡ kind_of w }

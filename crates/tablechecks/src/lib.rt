@@ -8,7 +8,7 @@ ghost use Rattle.tablechecks.specs.Naming.{list_of, named_in, against_named};
 
 use literals::Literal;
 use predicate::Column;
-use pruning::{Reached, TableNode};
+use pruning::TableNode;
 use statistics::{Place, Statistic};
 
 // Whether a statistic is a column's least or greatest value.
@@ -172,7 +172,7 @@ pub fn table_node_fine(schema: &[u8], list: &[u8], pool: &[u8], table: &[u8], at
     )
 }
 
-// Checks the table at a place, with a depth left.
+// Checks the table at a place, with a depth left: the place of the word behind it, or none if it breaks a rule.
 pub fn check_table(
     schema: &[u8],
     list: &[u8],
@@ -180,25 +180,25 @@ pub fn check_table(
     table: &[u8],
     depth: usize,
     at: usize,
-) -> Reached
+) -> Option<usize>
     ensures { result ≡ check_table_from schema.now (list_of list.now) pool.now (words_of table.now) depth at }
 {
     if depth == 0 {
-        return Reached::Broken;
+        return None;
     }
     if !table_node_fine(schema, list, pool, table, at) {
-        return Reached::Broken;
+        return None;
     }
     match pruning::table_node_at(pool, table, at) {
-        TableNode::Always(_) => Reached::At(at + 1),
+        TableNode::Always(_) => Some(at + 1),
         TableNode::Join(_) => match check_table(schema, list, pool, table, depth - 1, at + 1) {
-            Reached::Broken => Reached::Broken,
-            Reached::At(m) => check_table(schema, list, pool, table, depth - 1, m),
+            None => None,
+            Some(m) => check_table(schema, list, pool, table, depth - 1, m),
         },
-        TableNode::Against(_, _, _, _) => Reached::At(at + 2),
-        TableNode::Positive(_) => Reached::At(at + 1),
-        TableNode::Differ(_, _) => Reached::At(at + 1),
-        TableNode::Holds(_) => Reached::At(at + 1),
+        TableNode::Against(_, _, _, _) => Some(at + 2),
+        TableNode::Positive(_) => Some(at + 1),
+        TableNode::Differ(_, _) => Some(at + 1),
+        TableNode::Holds(_) => Some(at + 1),
         TableNode::Negation => check_table(schema, list, pool, table, depth - 1, at + 1),
     }
 }
@@ -208,8 +208,8 @@ pub fn table_fine(schema: &[u8], list: &[u8], pool: &[u8], table: &[u8]) -> bool
     ensures { result ≡ table_fine schema.now (list_of list.now) pool.now (words_of table.now) }
 {
     match check_table(schema, list, pool, table, limits::MAX_TABLE_DEPTH, 0) {
-        Reached::Broken => false,
-        Reached::At(m) => m == table.len() / 8,
+        None => false,
+        Some(m) => m == table.len() / 8,
     }
 }
 

@@ -27,13 +27,13 @@ returns-in-Differ t c = rw (check_node _ _ _ _ _ _ c.if-depth-eq0.false (sym c.t
 pub returns-in-Holds : goal.returns-in-Holds
 returns-in-Holds t c = rw (check_node _ _ _ _ _ _ c.if-depth-eq0.false (sym c.table_node_fine.ensures ∙ c.if-not-table_node_fine.false) _ (sym c.in-Holds.is ∙ c.table_node_at.ensures))
 
-pub returns-in-Broken : goal.returns-in-Broken
-returns-in-Broken t c =
-    rw (check_node _ _ _ _ _ _ c.if-depth-eq0.false (sym c.table_node_fine.ensures ∙ c.if-not-table_node_fine.false) _ (sym c.in-Join.is ∙ c.table_node_at.ensures), then_broken _ _ _ _ _ _ (sym c.check_table.ensures ∙ c.in-Broken.is))
+pub returns-in-None : goal.returns-in-None
+returns-in-None t c =
+    rw (check_node _ _ _ _ _ _ c.if-depth-eq0.false (sym c.table_node_fine.ensures ∙ c.if-not-table_node_fine.false) _ (sym c.in-Join.is ∙ c.table_node_at.ensures), then_broken _ _ _ _ _ _ (sym c.check_table.ensures ∙ c.in-None.is))
 
-pub returns-in-At : goal.returns-in-At
-returns-in-At t c =
-    rw (check_node _ _ _ _ _ _ c.if-depth-eq0.false (sym c.table_node_fine.ensures ∙ c.if-not-table_node_fine.false) _ (sym c.in-Join.is ∙ c.table_node_at.ensures), then_at_lem _ _ _ _ _ _ _ (sym c.check_table.ensures ∙ c.in-At.is)) c.check_table-in-At.ensures
+pub returns-in-Some : goal.returns-in-Some
+returns-in-Some t c =
+    rw (check_node _ _ _ _ _ _ c.if-depth-eq0.false (sym c.table_node_fine.ensures ∙ c.if-not-table_node_fine.false) _ (sym c.in-Join.is ∙ c.table_node_at.ensures), then_at_lem _ _ _ _ _ _ _ (sym c.check_table.ensures ∙ c.in-Some.is)) c.check_table-in-Some.ensures
 
 pub returns-in-Negation : goal.returns-in-Negation
 returns-in-Negation t c =

@@ -3,12 +3,12 @@ use Rattle.words.specs.WordLaws.{length_words}
 use Rattle.pruning.specs.TableChecking.{table_fine}
 use Rattle.tablechecks.proofs.table_fine.Goals as goal
 
-pub returns-in-Broken : goal.returns-in-Broken
+pub returns-in-None : goal.returns-in-None
 unfolding table_fine
-returns-in-Broken c =
-    rw (← c.check_table.ensures, c.in-Broken.is)
+returns-in-None c =
+    rw (← c.check_table.ensures, c.in-None.is)
 
-pub returns-in-At : goal.returns-in-At
+pub returns-in-Some : goal.returns-in-Some
 unfolding table_fine
-returns-in-At c =
-    rw (← c.check_table.ensures, c.in-At.is, length_words)
+returns-in-Some c =
+    rw (← c.check_table.ensures, c.in-Some.is, length_words)
