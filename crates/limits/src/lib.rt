@@ -1,5 +1,8 @@
-// Every limit, room and refusal number of document 01, for the code; specs/Limits.antt has the same for the definitions.
+// Every limit, room and refusal of document 01, for the code; specs/Limits.antt and specs/Refusals.antt have the same for the definitions.
 #![tactic(auto)]
+
+ghost use Rattle.std.specs.Prelude.{◌≡◌};
+ghost use Rattle.limits.specs.Refusals.{number_of};
 
 // Limits.
 pub const MAX_COLUMNS: usize = 64;
@@ -38,23 +41,38 @@ pub const STATISTICS_ROOM: usize = 1544;
 
 pub const GUARANTEES_ROOM: usize = 1024;
 
-// Refusals.
-pub const BAD_SCHEMA: u8 = 1;
+// Why a call is refused.
+#[derive(Clone, Copy, Debug, PartialEq, Eq)]
+pub enum Refusal {
+    BadSchema,
+    BadLimit,
+    NoRoom,
+    Malformed,
+    OverLimit,
+    Misfit,
+    BadContainers,
+    BadTable,
+    BadGrid,
+    BadAnswers,
+}
 
-pub const BAD_LIMIT: u8 = 2;
+// Its number.
+impl From<Refusal> for u8 {
+    ghost from_gives = { λ r n. n ≡ number_of r };
 
-pub const NO_ROOM: u8 = 3;
-
-pub const MALFORMED: u8 = 4;
-
-pub const OVER_LIMIT: u8 = 5;
-
-pub const MISFIT: u8 = 6;
-
-pub const BAD_CONTAINERS: u8 = 7;
-
-pub const BAD_TABLE: u8 = 8;
-
-pub const BAD_GRID: u8 = 9;
-
-pub const BAD_ANSWERS: u8 = 10;
+    fn from(r: Refusal) -> u8
+    {
+        match r {
+            Refusal::BadSchema => 1,
+            Refusal::BadLimit => 2,
+            Refusal::NoRoom => 3,
+            Refusal::Malformed => 4,
+            Refusal::OverLimit => 5,
+            Refusal::Misfit => 6,
+            Refusal::BadContainers => 7,
+            Refusal::BadTable => 8,
+            Refusal::BadGrid => 9,
+            Refusal::BadAnswers => 10,
+        }
+    }
+}
