@@ -4,7 +4,7 @@ use Rattle.std.proofs.Common.{sym, ap, ◌∙◌, arith, leb-true, leb-false, eq
 use Rattle.std.proofs.Math.Option.{Option, some, none}
 use Rattle.words.specs.Word.{word_at}
 use Rattle.words.specs.Bytes.{byte_order}
-use Rattle.words.specs.declared.Order.{Order}
+use Rattle.std.specs.declared.cmp.Ordering.{Ordering}
 use Rattle.operators.specs.Operators.{swap_of}
 use Rattle.operators.specs.declared.Operator.{Operator}
 use Rattle.operators.specs.declared.Operator.TheVariants.{Equal, NotEqual, Below, AtMost, Above, AtLeast, Distinct, NotDistinct}
@@ -22,7 +22,7 @@ use Rattle.comparing.specs.declared.Compared.TheVariants.{Apart, By}
 -- ---- orders
 
 -- how two values compare: an order, or none
-abbrev pub order_in : Compared → Option Order
+abbrev pub order_in : Compared → Option Ordering
 order_in Apart = none
 order_in (By r) = some r
 
@@ -71,11 +71,11 @@ integer_top = 275012124672
 pub integer_value : (pool : List ℕ) (w : ℕ) → w / 2 ^ 24 ≡ integer_top → value_at pool w ≡ int (signed (word_at pool (offset_of w)))
 integer_value pool w e = let t : type_of w ≡ 1 = omega arith in ap (value_of pool) (literal_int pool w t)
 
-pub ints_after : (o : Operator) (a b : ℤ) (r : Order) → Asks o → r ≡ int_order a b → by_order o (some r) ≡ compared_from false o (int a) (int b)
-ints_after o a b r h e = ap (λ (x : Order). by_order o (some x)) (e ∙ int_order_lem a b) ∙ sym (asks_order o (int a) (int b) h)
+pub ints_after : (o : Operator) (a b : ℤ) (r : Ordering) → Asks o → r ≡ int_order a b → by_order o (some r) ≡ compared_from false o (int a) (int b)
+ints_after o a b r h e = ap (λ (x : Ordering). by_order o (some x)) (e ∙ int_order_lem a b) ∙ sym (asks_order o (int a) (int b) h)
 
-pub ints_first : (o : Operator) (a b : ℤ) (r : Order) → Asks o → r ≡ int_order b a → by_order o (some r) ≡ compared_from true o (int a) (int b)
-ints_first o a b r h e = ap (λ (x : Order). by_order o (some x)) (e ∙ int_order_lem b a) ∙ sym (asks_order o (int b) (int a) h)
+pub ints_first : (o : Operator) (a b : ℤ) (r : Ordering) → Asks o → r ≡ int_order b a → by_order o (some r) ≡ compared_from true o (int a) (int b)
+ints_first o a b r h e = ap (λ (x : Ordering). by_order o (some x)) (e ∙ int_order_lem b a) ∙ sym (asks_order o (int b) (int a) h)
 
 -- ---- counts
 

@@ -18,13 +18,14 @@ use cells::Count;
 use kleene::Truth;
 use literals::Literal;
 use operators::Operator;
-use words::{Operand, Order, Range};
+use std::cmp::Ordering;
+use words::{Operand, Range};
 
 // How two values compare; apart where one is absent or null, or of another type.
 #[derive(Clone, Copy)]
 pub enum Compared {
     Apart,
-    By(Order),
+    By(Ordering),
 }
 
 // A truth value that is known.
@@ -35,7 +36,7 @@ pub fn truth_of(b: bool) -> Truth
 }
 
 // How a text of the cell pool compares with one of the literal pool.
-fn compare_texts<'a>(literals: &'a [u8], cells: &'a [u8], cell: Range, literal: Range) -> Order
+fn compare_texts<'a>(literals: &'a [u8], cells: &'a [u8], cell: Range, literal: Range) -> Ordering
     ensures { result ≡ byte_order (range_of cells.now cell) (range_of literals.now literal) }
 {
     let x = words::operand_bytes(literals, cells, Operand::Cell(words::clip(cells, cell)));
@@ -48,13 +49,17 @@ fn compare_texts<'a>(literals: &'a [u8], cells: &'a [u8], cell: Range, literal: 
 }
 
 // How two truth values compare: false lies below true.
-fn compare_truths(a: bool, b: bool) -> Order
+fn compare_truths(a: bool, b: bool) -> Ordering
     ensures { result ≡ order_by truths a b }
 {
     if a {
-        if b { Order::Equal } else { Order::Greater }
+        if b {
+            Ordering::Equal
+        } else {
+            Ordering::Greater
+        }
     } else {
-        if b { Order::Less } else { Order::Equal }
+        if b { Ordering::Less } else { Ordering::Equal }
     }
 }
 

@@ -3,8 +3,8 @@
 use Rattle.std.specs.Prelude.{◌≡◌, refl, Bool, true, false, not, ◌||◌, List, [], ◌∷◌, ◌++◌, ℕ, zero, suc, ◌+◌}
 use Rattle.std.proofs.Common.{sym, ◌∙◌, ap, subst, true≢false, ⊎_elim, eqb-true}
 use Rattle.std.proofs.Math.Option.{Option, some, none}
-use Rattle.words.specs.declared.Order.{Order}
-use Rattle.words.specs.declared.Order.TheVariants.{Less, Equal as Same, Greater}
+use Rattle.std.specs.declared.cmp.Ordering.{Ordering}
+use Rattle.std.specs.declared.cmp.Ordering.TheVariants.{Less, Equal as Same, Greater}
 use Rattle.operators.specs.Operators.{swap_of}
 use Rattle.operators.specs.declared.Operator.{Operator}
 use Rattle.operators.specs.declared.Operator.TheVariants.{Equal, NotEqual, Below, AtMost, Above, AtLeast, Distinct, NotDistinct}
@@ -34,13 +34,13 @@ equality true = NotEqual
 abbrev Settled : Bool → Value → Value → Type 0
 Settled not_in v k = (is_null v ≡ false) × (alike v k ≡ not not_in)
 
-same_order : (r : Option Order) → by_order Equal r ≡ True → is_same r ≡ true
+same_order : (r : Option Ordering) → by_order Equal r ≡ True → is_same r ≡ true
 same_order none e = unknown_true e
 same_order (some Less) e = false_true e
 same_order (some Same) e = refl
 same_order (some Greater) e = false_true e
 
-other_order : (r : Option Order) → by_order NotEqual r ≡ True → is_same r ≡ false
+other_order : (r : Option Ordering) → by_order NotEqual r ≡ True → is_same r ≡ false
 other_order none e = unknown_true e
 other_order (some Less) e = refl
 other_order (some Same) e = false_true e

@@ -4,7 +4,7 @@
 ghost use Rattle.std.specs.Prelude.{◌≡◌, ◌<◌};
 ghost use Rattle.kleene.specs.Truths.{place_of, kleene_and, kleene_or, kleene_not, kleene};
 
-#[derive(Clone, Copy)]
+#[derive(Clone, Copy, PartialEq, Eq)]
 pub enum Truth {
     False,
     Unknown,
@@ -12,7 +12,7 @@ pub enum Truth {
 }
 
 // The two ways of joining predicates.
-#[derive(Clone, Copy)]
+#[derive(Clone, Copy, PartialEq, Eq)]
 pub enum Joining {
     And,
     Or,
@@ -48,26 +48,21 @@ impl Truth {
     pub fn and(self, b: Truth) -> Truth
         ensures { result ≡ kleene_and self b }
     {
-        let i = self.place();
-        let j = b.place();
-        Truth::AND[i][j]
+        Truth::AND[self.place()][b.place()]
     }
 
     // OR of two truth values.
     pub fn or(self, b: Truth) -> Truth
         ensures { result ≡ kleene_or self b }
     {
-        let i = self.place();
-        let j = b.place();
-        Truth::OR[i][j]
+        Truth::OR[self.place()][b.place()]
     }
 
     // NOT of a truth value.
     pub fn not(self) -> Truth
         ensures { result ≡ kleene_not self }
     {
-        let i = self.place();
-        Truth::NOT[i]
+        Truth::NOT[self.place()]
     }
 }
 

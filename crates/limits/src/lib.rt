@@ -60,8 +60,7 @@ pub enum Refusal {
 impl From<Refusal> for u8 {
     ghost from_gives = { λ r n. n ≡ number_of r };
 
-    fn from(r: Refusal) -> u8
-    {
+    fn from(r: Refusal) -> u8 {
         match r {
             Refusal::BadSchema => 1,
             Refusal::BadLimit => 2,

@@ -1,11 +1,9 @@
 -- Integers: two's complement in 64 bits, as exact integers; minus, which is exact. `negsuc k` is -(k + 1). Assumes nothing.
-use Rattle.std.specs.Prelude.{◌≡◌, refl, Bool, true, false, cond, not, ℕ, ◌-◌, ◌^◌, ◌≤◌, ◌<◌, leb, ltb, eqb, ℤ, pos, negsuc, neg_ℤ}
+use Rattle.std.specs.Prelude.{◌≡◌, refl, Bool, true, false, cond, not, ℕ, ◌-◌, ◌^◌, ◌≤◌, ◌<◌, leb, ltb, eqb, ℤ, pos, negsuc, neg_ℤ, Option, Some, None}
 use Rattle.std.proofs.Common.{ap, arith, lt-ltb, le-ltb, ltb-true, ltb-false, leb-true, leb-false, ne_eqb}
 use Rattle.std.specs.Int.Signed.{lt_z, le_z}
-use Rattle.words.specs.declared.Order.{Order}
-use Rattle.words.specs.declared.Order.TheVariants.{Less, Equal, Greater}
-use Rattle.literals.specs.declared.Negated.{Negated}
-use Rattle.literals.specs.declared.Negated.TheVariants.{To, Unhandled}
+use Rattle.std.specs.declared.cmp.Ordering.{Ordering}
+use Rattle.std.specs.declared.cmp.Ordering.TheVariants.{Less, Equal, Greater}
 
 -- the integer that 64 bits stand for
 unfoldable pub signed : ℕ → ℤ
@@ -61,26 +59,26 @@ abbrev pub least_integer : ℤ
 least_integer = negsuc (2 ^ 63 - 1)
 
 -- minus a literal; that of -2 ^ 63 is left unhandled
-unfoldable pub negated : ℤ → Negated
-negated (pos n) = To (neg_ℤ (pos n))
-negated (negsuc n) = cond (eqb n (2 ^ 63 - 1)) Unhandled (To (neg_ℤ (negsuc n)))
+unfoldable pub negated : ℤ → Option ℤ
+negated (pos n) = Some (neg_ℤ (pos n))
+negated (negsuc n) = cond (eqb n (2 ^ 63 - 1)) None (Some (neg_ℤ (negsuc n)))
 
-pub negated_least : negated least_integer ≡ Unhandled
+pub negated_least : negated least_integer ≡ None
 unfolding negated
 negated_least = refl
 
-pub negated_to : (z : ℤ) → (z ≡ least_integer → ⊥) → negated z ≡ To (neg_ℤ z)
+pub negated_to : (z : ℤ) → (z ≡ least_integer → ⊥) → negated z ≡ Some (neg_ℤ z)
 unfolding negated
 negated_to (pos n) h = refl
 negated_to (negsuc n) h = rw (ne_eqb n (2 ^ 63 - 1) (λ e. h (ap negsuc e)))
 
 -- where it is handled, it is minus
-pub negated_is : (z y : ℤ) → negated z ≡ To y → y ≡ neg_ℤ z
+pub negated_is : (z y : ℤ) → negated z ≡ Some y → y ≡ neg_ℤ z
 unfolding negated
 negated_is (pos n) y e = cc
 negated_is (negsuc n) y e = go (eqb n (2 ^ 63 - 1)) e
   where
-    go : (b : Bool) → cond b Unhandled (To (neg_ℤ (negsuc n))) ≡ To y → y ≡ neg_ℤ (negsuc n)
+    go : (b : Bool) → cond b None (Some (neg_ℤ (negsuc n))) ≡ Some y → y ≡ neg_ℤ (negsuc n)
     go true e = cc
     go false e = cc
 
@@ -92,7 +90,7 @@ ltb_leb m n = go (leb n m) refl
     go false e = lt-ltb m n (leb-false n m e)
 
 -- how two integers compare
-unfoldable pub int_order : ℤ → ℤ → Order
+unfoldable pub int_order : ℤ → ℤ → Ordering
 int_order a b = cond (lt_z a b) Less (cond (lt_z b a) Greater Equal)
 
 pub int_less : (a b : ℤ) → lt_z a b ≡ true → int_order a b ≡ Less

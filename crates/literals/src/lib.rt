@@ -4,9 +4,10 @@
 ghost use Rattle.std.specs.Prelude.{◌≡◌, [], ◌∷◌, ◌^◌, ◌<◌};
 ghost use Rattle.literals.specs.Signed.{signed, bits_of, negated, int_order};
 ghost use Rattle.words.specs.Layout.{packed};
-ghost use Rattle.literals.specs.Literals.{literal_layout, type_of, length_of, zero_of, offset_of, plain, inside, suits, literal_of, bit_of, literal_word, LiteralFits};
+ghost use Rattle.literals.specs.Literals.{literal_layout, type_of, length_of, zero_of, offset_of, plain, inside, suits, literal_of, literal_word, LiteralFits};
 
-use words::{Order, Range};
+use std::cmp::Ordering;
+use words::Range;
 
 #[derive(Clone, Copy)]
 pub enum Literal {
@@ -14,13 +15,6 @@ pub enum Literal {
     Int(i64),
     Text(Range),
     Truth(bool),
-}
-
-// Minus a number of 64 bits, where it has 64 bits.
-#[derive(Clone, Copy)]
-pub enum Negated {
-    To(i64),
-    Unhandled,
 }
 
 impl Literal {
@@ -40,46 +34,31 @@ impl Literal {
 pub fn of_word(w: u64) -> i64
     ensures { result ≡ signed w }
 {
-    if w < 9223372036854775808 {
-        w as i64
-    } else {
-        let m = (18446744073709551615 - w) as i64;
-        -1 - m
-    }
+    w.cast_signed()
 }
 
 // The 64 bits of an integer in two's complement.
 pub fn to_word(x: i64) -> u64
     ensures { result ≡ bits_of x }
 {
-    if x < 0 {
-        18446744073709551615 - ((-1 - x) as u64)
-    } else {
-        x as u64
-    }
+    x.cast_unsigned()
 }
 
 // Minus an integer, -2^63 caught first.
-pub fn negate(x: i64) -> Negated
+pub fn negate(x: i64) -> Option<i64>
     ensures { result ≡ negated x }
 {
-    if x == -9223372036854775808 {
-        return Negated::Unhandled;
+    if x == i64::MIN {
+        return None;
     }
-    Negated::To(-x)
+    Some(-x)
 }
 
 // How two integers compare.
-pub fn compare_ints(a: i64, b: i64) -> Order
+pub fn compare_ints(a: i64, b: i64) -> Ordering
     ensures { result ≡ int_order a b }
 {
-    if a < b {
-        return Order::Less;
-    }
-    if b < a {
-        return Order::Greater;
-    }
-    Order::Equal
+    a.cmp(&b)
 }
 
 // A literal word's type.
@@ -114,16 +93,7 @@ pub fn offset_of(w: u64) -> usize
 pub fn is_plain(w: u64) -> bool
     ensures { result ≡ plain w }
 {
-    if zero_of(w) != 0 {
-        return false;
-    }
-    if type_of(w) != Literal::NULL {
-        return true;
-    }
-    if length_of(w) != 0 {
-        return false;
-    }
-    offset_of(w) == 0
+    zero_of(w) == 0 && (type_of(w) != Literal::NULL || (length_of(w) == 0 && offset_of(w) == 0))
 }
 
 // Whether the bytes of a literal word lie inside the pool.
@@ -139,30 +109,11 @@ pub fn suits(pool: &[u8], kind: u8, w: u64) -> bool
 {
     match type_of(w) {
         Literal::NULL => true,
-        Literal::INTEGER => {
-            if kind != Literal::INTEGER {
-                return false;
-            }
-            if length_of(w) != Literal::INTEGER_BYTES {
-                return false;
-            }
-            is_inside(pool, w)
-        }
-        Literal::TEXT => {
-            if kind != Literal::TEXT {
-                return false;
-            }
-            is_inside(pool, w)
-        }
-        _ => {
-            if kind != Literal::TRUTH {
-                return false;
-            }
-            if length_of(w) != 0 {
-                return false;
-            }
-            offset_of(w) <= 1
-        }
+        Literal::INTEGER => kind == of
+            && length_of(w) == Literal::INTEGER_BYTES
+            && is_inside(pool, w),
+        Literal::TEXT => kind == Literal::TEXT && is_inside(pool, w),
+        _ => kind == Literal::TRUTH && length_of(w) == 0 && offset_of(w) <= 1,
     }
 }
 
@@ -182,19 +133,12 @@ pub fn literal_of(pool: &[u8], w: u64) -> Literal
     }
 }
 
-// A truth value as a number.
-fn bit(b: bool) -> usize
-    ensures { (result ≡ bit_of b) × (result < 2) }
-{
-    if b { 1 } else { 0 }
-}
-
 // A literal word of a type, a length and an offset.
 fn pack(kind: u8, len: usize, offset: usize) -> u64
     requires { (kind < 4) × (len < 2 ^ 14) × (offset < 2 ^ 24) }
     ensures { result ≡ packed literal_layout (kind ∷ len ∷ 0 ∷ offset ∷ []) }
 {
-    (kind as u64) * 4611686018427387904 + (len as u64) * 281474976710656 + (offset as u64)
+    u64::from(kind) * 4611686018427387904 + (len as u64) * 281474976710656 + (offset as u64)
 }
 
 // The word of a literal whose bytes stand at an offset.
@@ -206,6 +150,6 @@ pub fn literal_word(l: Literal, offset: usize) -> u64
         Literal::Null => 0,
         Literal::Int(_) => pack(Literal::INTEGER, Literal::INTEGER_BYTES, offset),
         Literal::Text(r) => pack(Literal::TEXT, r.len, offset),
-        Literal::Truth(b) => pack(Literal::TRUTH, 0, bit(b)),
+        Literal::Truth(b) => pack(Literal::TRUTH, 0, usize::from(b)),
     }
 }

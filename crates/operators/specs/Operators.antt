@@ -1,12 +1,10 @@
 -- The comparison operators: document 01's code of each, what each asks of an order, and each one's swap. Assumes nothing.
-use Rattle.std.specs.Prelude.{◌≡◌, refl, Bool, true, false, List, [], ◌∷◌, ℕ, ◌<◌, get_or}
+use Rattle.std.specs.Prelude.{◌≡◌, refl, Bool, true, false, List, [], ◌∷◌, ℕ, ◌<◌, get_or, Option, Some, None}
 use Rattle.std.proofs.Common.{lit<}
-use Rattle.words.specs.declared.Order.{Order}
-use Rattle.words.specs.declared.Order.TheVariants.{Less, Equal as Same, Greater}
+use Rattle.std.specs.declared.cmp.Ordering.{Ordering}
+use Rattle.std.specs.declared.cmp.Ordering.TheVariants.{Less, Equal as Same, Greater}
 use Rattle.operators.specs.declared.Operator.{Operator}
 use Rattle.operators.specs.declared.Operator.TheVariants.{Equal, NotEqual, Below, AtMost, Above, AtLeast, Distinct, NotDistinct}
-use Rattle.operators.specs.declared.OperatorRead.{OperatorRead}
-use Rattle.operators.specs.declared.OperatorRead.TheVariants.{Known, Unknown}
 
 -- 0 =, 1 ≠, 2 <, 3 ≤, 4 >, 5 ≥, 6 distinct from, 7 not distinct from
 abbrev pub code_of : Operator → ℕ
@@ -19,15 +17,15 @@ code_of AtLeast = 5
 code_of Distinct = 6
 code_of NotDistinct = 7
 
-abbrev pub operators : List OperatorRead
+abbrev pub operators : List (Option Operator)
 operators =
-    Known Equal ∷ Known NotEqual ∷ Known Below ∷ Known AtMost ∷ Known Above ∷ Known AtLeast ∷ Known Distinct ∷ Known NotDistinct ∷ []
+    Some Equal ∷ Some NotEqual ∷ Some Below ∷ Some AtMost ∷ Some Above ∷ Some AtLeast ∷ Some Distinct ∷ Some NotDistinct ∷ []
 
 -- the operator of a code, if it is one's
-abbrev pub operator_of : ℕ → OperatorRead
-operator_of n = get_or operators n Unknown
+abbrev pub operator_of : ℕ → Option Operator
+operator_of n = get_or operators n None
 
-pub operator_code : (o : Operator) → operator_of (code_of o) ≡ Known o
+pub operator_code : (o : Operator) → operator_of (code_of o) ≡ Some o
 operator_code Equal = refl
 operator_code NotEqual = refl
 operator_code Below = refl
@@ -59,13 +57,13 @@ swap_of Distinct = Distinct
 swap_of NotDistinct = NotDistinct
 
 -- how two values compare from the other side
-abbrev pub turned : Order → Order
+abbrev pub turned : Ordering → Ordering
 turned Less = Greater
 turned Same = Same
 turned Greater = Less
 
 -- whether an operator holds of two values that are there, by how they compare
-abbrev pub holds : Operator → Order → Bool
+abbrev pub holds : Operator → Ordering → Bool
 holds Equal Less = false
 holds Equal Same = true
 holds Equal Greater = false
@@ -92,7 +90,7 @@ holds NotDistinct Same = true
 holds NotDistinct Greater = false
 
 -- a swap means the same from the other side
-pub swap_means : (o : Operator) (r : Order) → holds (swap_of o) (turned r) ≡ holds o r
+pub swap_means : (o : Operator) (r : Ordering) → holds (swap_of o) (turned r) ≡ holds o r
 swap_means Equal Less = refl
 swap_means Equal Same = refl
 swap_means Equal Greater = refl

@@ -2,12 +2,11 @@
 #![tactic(auto)]
 
 ghost use Rattle.std.specs.Prelude.{◌≡◌};
-ghost use Rattle.words.specs.declared.Order.TheVariants.{Less, Equal as Same, Greater};
 ghost use Rattle.operators.specs.Operators.{operator_of, code_of, swap_of, holds};
 
-use words::Order;
+use std::cmp::Ordering;
 
-#[derive(Clone, Copy)]
+#[derive(Clone, Copy, PartialEq, Eq)]
 pub enum Operator {
     Equal,
     NotEqual,
@@ -17,13 +16,6 @@ pub enum Operator {
     AtLeast,
     Distinct,
     NotDistinct,
-}
-
-// What a code stands for.
-#[derive(Clone, Copy)]
-pub enum OperatorRead {
-    Known(Operator),
-    Unknown,
 }
 
 impl Operator {
@@ -44,19 +36,19 @@ impl Operator {
     pub const NOT_DISTINCT: u8 = 7;
 
     // The operator of a code.
-    pub fn of_code(n: u8) -> OperatorRead
+    pub fn of_code(n: u8) -> Option<Operator>
         ensures { result ≡ operator_of n }
     {
         match n {
-            Operator::EQUAL => OperatorRead::Known(Operator::Equal),
-            Operator::NOT_EQUAL => OperatorRead::Known(Operator::NotEqual),
-            Operator::BELOW => OperatorRead::Known(Operator::Below),
-            Operator::AT_MOST => OperatorRead::Known(Operator::AtMost),
-            Operator::ABOVE => OperatorRead::Known(Operator::Above),
-            Operator::AT_LEAST => OperatorRead::Known(Operator::AtLeast),
-            Operator::DISTINCT => OperatorRead::Known(Operator::Distinct),
-            Operator::NOT_DISTINCT => OperatorRead::Known(Operator::NotDistinct),
-            _ => OperatorRead::Unknown,
+            Operator::EQUAL => Some(Operator::Equal),
+            Operator::NOT_EQUAL => Some(Operator::NotEqual),
+            Operator::BELOW => Some(Operator::Below),
+            Operator::AT_MOST => Some(Operator::AtMost),
+            Operator::ABOVE => Some(Operator::Above),
+            Operator::AT_LEAST => Some(Operator::AtLeast),
+            Operator::DISTINCT => Some(Operator::Distinct),
+            Operator::NOT_DISTINCT => Some(Operator::NotDistinct),
+            _ => None,
         }
     }
 
@@ -92,62 +84,17 @@ impl Operator {
         }
     }
 
-    // Whether the operator holds of two values, the first below the second.
-    fn holds_less(self) -> bool
-        ensures { result ≡ holds self Less }
-    {
-        match self {
-            Operator::Equal => false,
-            Operator::NotEqual => true,
-            Operator::Below => true,
-            Operator::AtMost => true,
-            Operator::Above => false,
-            Operator::AtLeast => false,
-            Operator::Distinct => true,
-            Operator::NotDistinct => false,
-        }
-    }
-
-    // Whether the operator holds of two equal values.
-    fn holds_same(self) -> bool
-        ensures { result ≡ holds self Same }
-    {
-        match self {
-            Operator::Equal => true,
-            Operator::NotEqual => false,
-            Operator::Below => false,
-            Operator::AtMost => true,
-            Operator::Above => false,
-            Operator::AtLeast => true,
-            Operator::Distinct => false,
-            Operator::NotDistinct => true,
-        }
-    }
-
-    // Whether the operator holds of two values, the first above the second.
-    fn holds_greater(self) -> bool
-        ensures { result ≡ holds self Greater }
-    {
-        match self {
-            Operator::Equal => false,
-            Operator::NotEqual => true,
-            Operator::Below => false,
-            Operator::AtMost => false,
-            Operator::Above => true,
-            Operator::AtLeast => true,
-            Operator::Distinct => true,
-            Operator::NotDistinct => false,
-        }
-    }
-
     // Whether the operator holds of two values that compare so.
-    pub fn holds(self, r: Order) -> bool
+    pub fn holds(self, r: Ordering) -> bool
         ensures { result ≡ holds self r }
     {
-        match r {
-            Order::Less => self.holds_less(),
-            Order::Equal => self.holds_same(),
-            Order::Greater => self.holds_greater(),
+        match self {
+            Operator::Equal | Operator::NotDistinct => r.is_eq(),
+            Operator::NotEqual | Operator::Distinct => r.is_ne(),
+            Operator::Below => r.is_lt(),
+            Operator::AtMost => r.is_le(),
+            Operator::Above => r.is_gt(),
+            Operator::AtLeast => r.is_ge(),
         }
     }
 }

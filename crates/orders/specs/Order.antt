@@ -4,8 +4,8 @@ use Rattle.std.proofs.Math.Path.{refl}
 use Rattle.std.proofs.Common.{sym, ◌∙◌, ap, true≢false}
 use Rattle.std.proofs.Math.Bool.{true, false, cond, and-eq-true_iff}
 use Rattle.std.proofs.lemmas.Bool.{false≢true}
-use Rattle.words.specs.declared.Order.{Order}
-use Rattle.words.specs.declared.Order.TheVariants.{Less, Equal as Same, Greater}
+use Rattle.std.specs.declared.cmp.Ordering.{Ordering}
+use Rattle.std.specs.declared.cmp.Ordering.TheVariants.{Less, Equal as Same, Greater}
 use Rattle.operators.specs.declared.Operator.{Operator}
 use Rattle.operators.specs.declared.Operator.TheVariants.{Equal, NotEqual, Below, AtMost, Above, AtLeast, Distinct, NotDistinct}
 use Rattle.operators.specs.Operators.{holds, swap_of, turned, swap_means}
@@ -37,7 +37,7 @@ module _ (o : TotalOrder) where
   abbrev pub eqb : o.Value → o.Value → Bool
   eqb a b = o.leb a b && o.leb b a
 
-  unfoldable pub order_by : o.Value → o.Value → Order
+  unfoldable pub order_by : o.Value → o.Value → Ordering
   order_by a b = cond (ltb a b) Less (cond (ltb b a) Greater Same)
 
   -- the operator holds of two values that are there
@@ -56,7 +56,7 @@ module _ (o : TotalOrder) where
   test NotDistinct a b = eqb a b
 
   -- two values compare in one of three ways
-  pub by_order : (a b : o.Value) (P : Order → Bool → Bool → Type 0) → P Less true false → P Same true true → P Greater false true
+  pub by_order : (a b : o.Value) (P : Ordering → Bool → Bool → Type 0) → P Less true false → P Same true true → P Greater false true
       → P (order_by a b) (o.leb a b) (o.leb b a)
   unfolding order_by
   by_order a b P l s g = go (o.leb a b) (o.leb b a) refl refl

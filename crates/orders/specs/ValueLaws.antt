@@ -7,8 +7,8 @@ use Rattle.std.proofs.Math.IntN.{neg_ℤ-neg_ℤ}
 use Rattle.std.specs.Int.Signed.{le_z}
 use Rattle.std.proofs.lemmas.Bool.{lt-leb}
 use Rattle.operators.specs.Operators.{holds, swap_of, turned, swap_means}
-use Rattle.words.specs.declared.Order.{Order}
-use Rattle.words.specs.declared.Order.TheVariants.{Less, Equal as Same, Greater}
+use Rattle.std.specs.declared.cmp.Ordering.{Ordering}
+use Rattle.std.specs.declared.cmp.Ordering.TheVariants.{Less, Equal as Same, Greater}
 use Rattle.operators.specs.declared.Operator.{Operator}
 use Rattle.operators.specs.declared.Operator.TheVariants.{Distinct, NotDistinct}
 use Rattle.kleene.specs.declared.Truth.{Truth}
@@ -118,7 +118,7 @@ one_type (truth a) (truth b) h = (refl, refl)
 
 -- ---- what compares
 
-pub by_known : (o : Operator) (r : Option Order) → (by_order o r ≡ Unknown → ⊥) → r ≡ none → ⊥
+pub by_known : (o : Operator) (r : Option Ordering) → (by_order o r ≡ Unknown → ⊥) → r ≡ none → ⊥
 by_known o r h e = h (ap (by_order o) e)
 
 module _ (k : Kind) where
@@ -189,13 +189,13 @@ alike_order (int a) w h = refl
 alike_order (text a) w h = refl
 alike_order (truth a) w h = refl
 
-pub apart : (r : Option Order) → by_order Distinct r ≡ True → truth_of (not (is_same r)) ≡ True
+pub apart : (r : Option Ordering) → by_order Distinct r ≡ True → truth_of (not (is_same r)) ≡ True
 apart none e = unknown_true e
 apart (some Less) e = refl
 apart (some Same) e = false_true e
 apart (some Greater) e = refl
 
-pub together : (r : Option Order) → by_order NotDistinct r ≡ True → truth_of (is_same r) ≡ True
+pub together : (r : Option Ordering) → by_order NotDistinct r ≡ True → truth_of (is_same r) ≡ True
 together none e = unknown_true e
 together (some Less) e = false_true e
 together (some Same) e = refl

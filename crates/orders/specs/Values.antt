@@ -1,7 +1,7 @@
 -- How two values compare, and what each comparison operator says of them under three-valued logic. Assumes nothing.
 use Rattle.std.specs.Prelude.{Bool, true, false, not}
 use Rattle.std.proofs.Math.Option.{Option, some, none}
-use Rattle.words.specs.declared.Order.{Order}
+use Rattle.std.specs.declared.cmp.Ordering.{Ordering}
 use Rattle.operators.specs.Operators.{holds}
 use Rattle.operators.specs.declared.Operator.{Operator}
 use Rattle.operators.specs.declared.Operator.TheVariants.{Equal, NotEqual, Below, AtMost, Above, AtLeast, Distinct, NotDistinct}
@@ -13,7 +13,7 @@ use Rattle.orders.specs.Order.{order_by}
 use Rattle.orders.specs.Instances.{numbers, texts, truths}
 
 -- integers as numbers, text by bytes, false below true; none with a null or with a value of another type
-abbrev pub order_of : Value → Value → Option Order
+abbrev pub order_of : Value → Value → Option Ordering
 order_of null w = none
 order_of (int a) null = none
 order_of (int a) (int b) = some (order_by numbers a b)
@@ -29,7 +29,7 @@ order_of (truth a) (text b) = none
 order_of (truth a) (truth b) = some (order_by truths a b)
 
 -- a comparison with NULL on either side is unknown
-abbrev pub by_order : Operator → Option Order → Truth
+abbrev pub by_order : Operator → Option Ordering → Truth
 by_order o none = Unknown
 by_order o (some r) = truth_of (holds o r)
 
@@ -39,7 +39,7 @@ is_null (int z) = false
 is_null (text bs) = false
 is_null (truth b) = false
 
-abbrev pub is_same : Option Order → Bool
+abbrev pub is_same : Option Ordering → Bool
 is_same none = false
 is_same (some r) = holds Equal r
 

@@ -11,39 +11,24 @@ use literals::Literal;
 pub fn integer_suits(pool: &[u8], w: u64) -> bool
     ensures { result ≡ fitting pool.now integer_type w }
 {
-    if w == 0 {
-        return true;
-    }
-    if w / 16777216 != 275012124672 {
-        return false;
-    }
-    literals::offset_of(w) + 8 <= pool.len()
+    w == 0 || (w / 16777216 == 275012124672 && literals::offset_of(w) + 8 <= pool.len())
 }
 
 // Null, or a text's word inside the pool.
 fn text_suits(pool: &[u8], w: u64) -> bool
     ensures { result ≡ fitting pool.now text_type w }
 {
-    if w == 0 {
-        return true;
-    }
-    if w / 4611686018427387904 != 2 {
-        return false;
-    }
-    if literals::zero_of(w) != 0 {
-        return false;
-    }
-    literals::offset_of(w) + literals::length_of(w) <= pool.len()
+    w == 0
+        || (w / 4611686018427387904 == 2
+            && literals::zero_of(w) == 0
+            && literals::offset_of(w) + literals::length_of(w) <= pool.len())
 }
 
 // Null, or a truth value's word: false or true.
 fn truth_suits(pool: &[u8], w: u64) -> bool
     ensures { result ≡ fitting pool.now truth_type w }
 {
-    if w == 0 {
-        return true;
-    }
-    w / 2 == 6917529027641081856
+    w == 0 || w / 2 == 6917529027641081856
 }
 
 // Null, or a word of the type asked, of that type's length or truth value, inside the pool; no unnamed field set.

@@ -7,8 +7,8 @@ use Rattle.std.proofs.Math.Logic.{inl, inr, ⊎_elim}
 use Rattle.std.proofs.Math.Option.{Option, some, none}
 use native.Mathlib.Omega.{arith}
 use Rattle.std.proofs.lemmas.Bool.{not-false}
-use Rattle.words.specs.declared.Order.{Order}
-use Rattle.words.specs.declared.Order.TheVariants.{Less, Equal as Same, Greater}
+use Rattle.std.specs.declared.cmp.Ordering.{Ordering}
+use Rattle.std.specs.declared.cmp.Ordering.TheVariants.{Less, Equal as Same, Greater}
 use Rattle.operators.specs.declared.Operator.{Operator}
 use Rattle.operators.specs.declared.Operator.TheVariants.{Equal, NotEqual, Below, AtMost, Above, AtLeast, Distinct, NotDistinct}
 use Rattle.kleene.specs.declared.Truth.{Truth}
@@ -217,13 +217,13 @@ pair_order v k p e =
     let z : ◌≡◌ {A = ℕ} 0 1 = cc in
     omega arith
 
-unlike : (x : Option Order) → (x ≡ none → ⊥) → truth_of (not (is_same x)) ≡ True → by_order NotEqual x ≡ True
+unlike : (x : Option Ordering) → (x ≡ none → ⊥) → truth_of (not (is_same x)) ≡ True → by_order NotEqual x ≡ True
 unlike none h e = absurd (h refl)
 unlike (some Less) h e = refl
 unlike (some Same) h e = false_true e
 unlike (some Greater) h e = refl
 
-equals : (x : Option Order) → truth_of (is_same x) ≡ True → by_order Equal x ≡ True
+equals : (x : Option Ordering) → truth_of (is_same x) ≡ True → by_order Equal x ≡ True
 equals none e = false_true e
 equals (some Less) e = false_true e
 equals (some Same) e = refl

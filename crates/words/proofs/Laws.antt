@@ -8,7 +8,7 @@ use lib.ListN.{length, get_or, take, drop, set, length-drop, drop_of_length-le}
 use lib.Seq.{sets, drop-cons, take-suc, length-take-le, get_or-drop}
 use Rattle.words.specs.Stores.{sets_then}
 use Rattle.words.specs.Bytes.{byte_order, below, below_first, order_below, order_above, order_same, order_self}
-use Rattle.words.specs.declared.Order.TheVariants.{Less, Equal, Greater}
+use Rattle.std.specs.declared.cmp.Ordering.TheVariants.{Less, Equal, Greater}
 
 -- one byte more of a copy from s at at into d at to
 pub copy_more : (d : List ℕ) (to : ℕ) (s : List ℕ) (at j : ℕ) → at + j < length s → set (sets d to (take j (drop at s))) (to + j) (get_or s (at + j) 0) ≡ sets d to (take (j + 1) (drop at s))

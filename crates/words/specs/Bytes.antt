@@ -2,8 +2,8 @@
 use Rattle.std.specs.Prelude.{◌≡◌, refl, Bool, true, false, cond, not, List, [], ◌∷◌, ◌++◌, ◌⊎◌, ℕ, ◌<◌, ltb}
 use Rattle.std.proofs.Common.{sym, ◌∙◌, ap, true≢false, inl, inr, ⊎_elim, arith, lt-ltb, le-ltb, ltb-true, ltb-false}
 use Rattle.std.proofs.lemmas.Bool.{not-false}
-use Rattle.words.specs.declared.Order.{Order}
-use Rattle.words.specs.declared.Order.TheVariants.{Less, Equal, Greater}
+use Rattle.std.specs.declared.cmp.Ordering.{Ordering}
+use Rattle.std.specs.declared.cmp.Ordering.TheVariants.{Less, Equal, Greater}
 
 -- a is below b
 unfoldable pub below : List ℕ → List ℕ → Bool
@@ -114,7 +114,7 @@ up_to_anti (x ∷ a) (y ∷ b) e f =
 
 -- ---- how two byte strings compare
 
-unfoldable pub byte_order : List ℕ → List ℕ → Order
+unfoldable pub byte_order : List ℕ → List ℕ → Ordering
 byte_order a b = cond (below a b) Less (cond (below b a) Greater Equal)
 
 pub order_below : (a b : List ℕ) → below a b ≡ true → byte_order a b ≡ Less

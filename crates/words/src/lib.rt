@@ -7,13 +7,7 @@ ghost use Rattle.words.specs.Word.{of_bytes, word_at, word_bytes, words_of, rang
 ghost use Rattle.words.specs.Pools.{Cut, Inside, operand_of, OperandInside};
 ghost use Rattle.words.specs.Bytes.{byte_order};
 
-// How two values compare.
-#[derive(Clone, Copy)]
-pub enum Order {
-    Less,
-    Equal,
-    Greater,
-}
+use std::cmp::Ordering;
 
 // len bytes of a pool, from at on.
 #[derive(Clone, Copy)]
@@ -29,25 +23,11 @@ pub enum Operand {
     Cell(Range),
 }
 
-// A byte as a number.
-fn wide(x: u8) -> u64
-    ensures { result ≡ x }
-{
-    x as u64
-}
-
-// Four bytes as a number, the first the highest.
-fn four(a: u8, b: u8, c: u8, d: u8) -> u64
-    ensures { (result ≡ ((a * 256 + b) * 256 + c) * 256 + d) × (result < 4294967296) }
-{
-    ((wide(a) * 256 + wide(b)) * 256 + wide(c)) * 256 + wide(d)
-}
-
-// Eight bytes as a number, by halves of four.
-fn of_bytes(a: u8, b: u8, c: u8, d: u8, e: u8, f: u8, g: u8, h: u8) -> u64
-    ensures { result ≡ of_bytes a b c d e f g h }
-{
-    four(a, b, c, d) * 4294967296 + four(e, f, g, h)
+// What a walk came to, and the place behind what it read.
+#[derive(Clone, Copy)]
+pub struct Walked<T> {
+    pub value: T,
+    pub next: usize,
 }
 
 // The word whose bytes begin at index at.
@@ -55,7 +35,7 @@ pub fn word_at(s: &[u8], at: usize) -> u64
     requires { at + 8 ≤ length s.now }
     ensures { result ≡ word_at s.now at }
 {
-    of_bytes(
+    u64::from_be_bytes([
         s[at],
         s[at + 1],
         s[at + 2],
@@ -64,46 +44,30 @@ pub fn word_at(s: &[u8], at: usize) -> u64
         s[at + 5],
         s[at + 6],
         s[at + 7],
-    )
+    ])
 }
 
-// The byte k places behind index at, and 0 past the end.
-fn byte_or_zero(s: &[u8], at: usize, k: usize) -> u8
-    ensures { result ≡ get_or s.now (at + k) 0 }
+// The word of fewer than eight bytes, the missing ones 0.
+fn cut_word(s: &[u8]) -> u64
+    requires { length s.now < 8 }
+    ensures { result ≡ word_at s.now 0 }
 {
-    if s.len() <= at {
-        return 0;
-    }
-    if k < s.len() - at { s[at + k] } else { 0 }
-}
-
-// The word whose bytes begin at index at, byte by byte, one past the end counted as 0.
-fn cut_word(s: &[u8], at: usize) -> u64
-    ensures { result ≡ word_at s.now at }
-{
-    of_bytes(
-        byte_or_zero(s, at, 0),
-        byte_or_zero(s, at, 1),
-        byte_or_zero(s, at, 2),
-        byte_or_zero(s, at, 3),
-        byte_or_zero(s, at, 4),
-        byte_or_zero(s, at, 5),
-        byte_or_zero(s, at, 6),
-        byte_or_zero(s, at, 7),
-    )
+    let mut bytes = [0; 8];
+    bytes[..s.len()].copy_from_slice(s);
+    u64::from_be_bytes(bytes)
 }
 
 // The word whose bytes begin at index at, wherever that is; a byte past the end counts as 0.
 pub fn padded_word(s: &[u8], at: usize) -> u64
     ensures { result ≡ word_at s.now at }
 {
-    if s.len() < 8 {
-        return cut_word(s, at);
+    if s.len() <= at {
+        return 0;
     }
-    if at <= s.len() - 8 {
+    if 8 <= s.len() - at {
         word_at(s, at)
     } else {
-        cut_word(s, at)
+        cut_word(&s[at..])
     }
 }
 
@@ -123,14 +87,7 @@ pub fn put_word(out: &mut [u8], at: usize, w: u64)
     requires { at + 8 ≤ length out.old }
     ensures { out.new ≡ sets out.old at (word_bytes w) }
 {
-    out[at] = (w / 72057594037927936 % 256) as u8;
-    out[at + 1] = (w / 281474976710656 % 256) as u8;
-    out[at + 2] = (w / 1099511627776 % 256) as u8;
-    out[at + 3] = (w / 4294967296 % 256) as u8;
-    out[at + 4] = (w / 16777216 % 256) as u8;
-    out[at + 5] = (w / 65536 % 256) as u8;
-    out[at + 6] = (w / 256 % 256) as u8;
-    out[at + 7] = (w % 256) as u8;
+    out[at..at + 8].copy_from_slice(&w.to_be_bytes());
 }
 
 // Stores len bytes of from, which stand at index at, into out from index to on.
@@ -138,27 +95,20 @@ pub fn copy_part(from: &[u8], at: usize, len: usize, out: &mut [u8], to: usize)
     requires { (at + len ≤ length from.now) × (to + len ≤ length out.old) }
     ensures { out.new ≡ sets out.old to (take len (drop at from.now)) }
 {
-    let mut j = 0;
-    while j < len {
-        out[to + j] = from[at + j];
-        j += 1;
-    }
+    out[to..to + len].copy_from_slice(&from[at..at + len]);
 }
 
 // A range cut to what a pool has.
 pub fn clip(pool: &[u8], r: Range) -> Range
     ensures { Cut pool.now r result }
 {
-    let at = r.at;
-    let len = r.len;
-    if pool.len() <= at {
+    if pool.len() <= r.at {
         return Range { at: 0, len: 0 };
     }
-    let rest = pool.len() - at;
-    if rest < len {
-        return Range { at, len: rest };
+    Range {
+        at: r.at,
+        len: r.len.min(pool.len() - r.at),
     }
-    r
 }
 
 // The bytes that a range names, lent out of their pool.
@@ -166,9 +116,7 @@ pub fn range_bytes(pool: &[u8], r: Range) -> &[u8]
     requires { Inside pool.now r }
     ensures { result.now ≡ range_of pool.now r }
 {
-    let at = r.at;
-    let len = r.len;
-    &pool[at..at + len]
+    &pool[r.at..r.at + r.len]
 }
 
 // The bytes that an operand names, lent out of the pool that it names.
@@ -183,27 +131,8 @@ pub fn operand_bytes<'a>(literals: &'a [u8], cells: &'a [u8], o: Operand) -> &'a
 }
 
 // How two byte strings compare: the first difference decides, and a front is below what continues it.
-pub fn compare_bytes(a: &[u8], b: &[u8]) -> Order
+pub fn compare_bytes(a: &[u8], b: &[u8]) -> Ordering
     ensures { result ≡ byte_order a.now b.now }
 {
-    let mut i = 0;
-    while i < a.len() {
-        if b.len() <= i {
-            return Order::Greater;
-        }
-        let x = a[i];
-        let y = b[i];
-        if x < y {
-            return Order::Less;
-        }
-        if y < x {
-            return Order::Greater;
-        }
-        i += 1;
-    }
-    if i < b.len() {
-        Order::Less
-    } else {
-        Order::Equal
-    }
+    a.cmp(b)
 }
