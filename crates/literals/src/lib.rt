@@ -109,7 +109,7 @@ pub fn suits(pool: &[u8], kind: u8, w: u64) -> bool
 {
     match type_of(w) {
         Literal::NULL => true,
-        Literal::INTEGER => kind == of
+        Literal::INTEGER => kind == Literal::INTEGER
             && length_of(w) == Literal::INTEGER_BYTES
             && is_inside(pool, w),
         Literal::TEXT => kind == Literal::TEXT && is_inside(pool, w),
