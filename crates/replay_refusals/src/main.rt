@@ -5,373 +5,226 @@
 // none; XX*N. stands for N times byte XX.
 #![tactic(auto)]
 
-ghost use Rattle.std.specs.Prelude.{◌+◌, ◌≤◌, ◌<◌, length};
-ghost use Rattle.replay_refusals.specs.Reading.{Leads};
+ghost use Rattle.std.specs.Prelude.{◌≤◌, ◌<◌, length, IfSome};
 
 use std::fs::File;
 use std::io;
 use std::io::Read;
 use std::rt::Files;
 
-// A decimal field.
-#[derive(Clone, Copy)]
-enum Number {
-    Is(usize),
-    Unread,
+// Bytes at the front of a room of N.
+#[derive(Drop)]
+struct Buffer<const N: usize> {
+    room: [u8; N],
+    len: usize,
+    ghost inside: { len ≤ N },
 }
 
-// A byte so many times, and the place behind it.
-#[derive(Clone, Copy)]
-enum Run {
-    Of(u8, usize, usize),
-    Unread,
-}
-
-// How many bytes a field has filled in a buffer.
-#[derive(Clone, Copy)]
-enum Filled {
-    Bytes(usize),
-    Unread,
-}
-
-// What a line came to.
-#[derive(Clone, Copy)]
-enum Replay {
-    Same,
-    Differs,
-    Unread,
-}
-
-// The first place from at on where b stands, or the end.
-fn find(s: &[u8], at: usize, b: u8) -> usize
-    requires { at ≤ length s.now }
-    ensures { (at ≤ result) × (result ≤ length s.now) }
-{
-    let mut i = at;
-    while i < s.len() {
-        if s[i] == b {
-            return i;
+impl<const N: usize> Buffer<N> {
+    fn new() -> Self {
+        Buffer {
+            room: [0; N],
+            len: 0,
         }
-        i += 1;
     }
-    i
-}
 
-// Where the field behind the one at a place begins.
-fn next_field(line: &[u8], at: usize) -> usize
-    requires { at ≤ length line.now }
-    ensures { result ≤ length line.now }
-{
-    let end = find(line, at, b' ');
-    if end < line.len() { end + 1 } else { end }
-}
-
-// Field n of a line, empty past the last.
-fn field(line: &[u8], n: u8) -> &[u8] {
-    let mut at = 0;
-    let mut left = n;
-    while 0 < left {
-        at = next_field(line, at);
-        left -= 1;
+    fn bytes(&self) -> &[u8] {
+        &self.room[..self.len]
     }
-    let end = find(line, at, b' ');
-    &line[at..end]
+
+    // Puts a byte behind the others so many times, if there is room.
+    fn put(&mut self, byte: u8, times: usize) -> Option<()> {
+        if N - self.len < times {
+            return None;
+        }
+        let room = &mut self.room[..];
+        room[self.len..self.len + times].fill(byte);
+        self.len += times;
+        Some(())
+    }
 }
 
-// A decimal field's number.
-fn number_of(s: &[u8]) -> Number {
-    if s.len() == 0 {
-        return Number::Unread;
-    }
-    let mut v: usize = 0;
-    let mut i = 0;
-    while i < s.len() {
-        let d = s[i];
-        if d < b'0' {
-            return Number::Unread;
-        }
-        if b'9' < d {
-            return Number::Unread;
-        }
-        let k = (d - b'0') as usize;
-        if 1844674407370955161 < v {
-            return Number::Unread;
-        }
-        if 18446744073709551615 - v * 10 < k {
-            return Number::Unread;
-        }
-        v = v * 10 + k;
-        i += 1;
-    }
-    Number::Is(v)
+// A byte that a field has so many times, and the field behind it.
+#[derive(Clone, Copy)]
+struct Run<'a> {
+    byte: u8,
+    times: usize,
+    rest: &'a [u8],
 }
 
-// A hex digit's value, 16 for another byte.
-fn digit(b: u8) -> u8
-    ensures { result ≤ 16 }
+// How many lines were replayed, how many of those answer otherwise, and how many could not be read.
+#[derive(Drop)]
+struct Counts {
+    replayed: u64,
+    differ: u64,
+    unread: u64,
+}
+
+// A file as it is replayed: the line so far, and the counts of the lines before it.
+#[derive(Drop)]
+struct Replay {
+    line: Buffer<4096>,
+    counts: Counts,
+}
+
+// A decimal field's number; parse would take a sign too.
+fn number_of(field: &[u8]) -> Option<usize> {
+    if field.is_empty() {
+        return None;
+    }
+    let mut n: usize = 0;
+    for b in field {
+        if !b.is_ascii_digit() {
+            return None;
+        }
+        n = n.checked_mul(10)?.checked_add(usize::from(*b - b'0'))?;
+    }
+    Some(n)
+}
+
+// A hex digit's value.
+fn digit(b: u8) -> Option<u8>
+    ensures { IfSome result (λ d. d < 16) }
 {
     match b {
-        b'0'..=b'9' => b - b'0',
-        b'A'..=b'F' => b - b'A' + 10,
-        _ => 16,
+        b'0'..=b'9' => Some(b - b'0'),
+        b'A'..=b'F' => Some(b - b'A' + 10),
+        _ => None,
     }
 }
 
-// How often the byte before the star at a place stands.
-fn times_at(s: &[u8], b: u8, star: usize) -> Run
-    requires { star < length s.now }
-    ensures { Leads star (length s.now) result }
+// The run at the front of a field.
+fn run_of(field: &[u8]) -> Option<Run<'_>>
+    ensures { IfSome result (λ r. length r.rest.now < length field.now) }
 {
-    let end = find(s, star, b'.');
-    if s.len() <= end {
-        return Run::Unread;
-    }
-    if end <= star {
-        return Run::Unread;
-    }
-    match number_of(&s[star + 1..end]) {
-        Number::Is(n) => Run::Of(b, n, end + 1),
-        Number::Unread => Run::Unread,
-    }
-}
-
-// The run of bytes that begins at a place.
-fn run_at(s: &[u8], at: usize) -> Run
-    requires { at < length s.now }
-    ensures { Leads at (length s.now) result }
-{
-    if s.len() - at < 2 {
-        return Run::Unread;
-    }
-    let high = digit(s[at]);
-    let low = digit(s[at + 1]);
-    if 16 <= high {
-        return Run::Unread;
-    }
-    if 16 <= low {
-        return Run::Unread;
-    }
-    let b = high * 16 + low;
-    if s.len() - at < 3 {
-        return Run::Of(b, 1, at + 2);
-    }
-    if s[at + 2] == b'*' {
-        times_at(s, b, at + 2)
-    } else {
-        Run::Of(b, 1, at + 2)
-    }
-}
-
-// Stores b n times from index to on.
-fn put_run(out: &mut [u8], to: usize, n: usize, b: u8)
-    requires { to + n ≤ length out.old }
-{
-    let mut i = 0;
-    while i < n {
-        out[to + i] = b;
-        i += 1;
-    }
-}
-
-// Stores a field's bytes at the front of a buffer.
-fn fill(s: &[u8], out: &mut [u8]) -> Filled {
-    if is_none(s) {
-        return Filled::Bytes(0);
-    }
-    let mut at = 0;
-    let mut to = 0;
-    while at < s.len() {
-        match run_at(s, at) {
-            Run::Unread => {
-                return Filled::Unread;
-            }
-            Run::Of(b, n, next) => {
-                if out.len() - to < n {
-                    return Filled::Unread;
-                }
-                put_run(out, to, n, b);
-                to += n;
-                at = next;
-            }
-        }
-    }
-    Filled::Bytes(to)
-}
-
-// Whether a field says that there are no bytes.
-fn is_none(s: &[u8]) -> bool {
-    if s.len() == 1 { s[0] == b'-' } else { false }
-}
-
-// A line's list limit and four rooms.
-fn read_numbers(line: &[u8], out: &mut [usize; 5]) -> bool {
-    let mut i = 0;
-    while i < 5 {
-        match number_of(field(line, i + 4)) {
-            Number::Unread => {
-                return false;
-            }
-            Number::Is(n) => {
-                let k = i as usize;
-                out[k] = n;
-            }
-        }
-        i += 1;
-    }
-    true
-}
-
-// Calls rewriting's checks, and compares the answer.
-fn compare(line: &[u8], schema: &[u8], predicate: &[u8], pool: &[u8]) -> Replay {
-    let mut n = [0usize; 5];
-    if !read_numbers(line, &mut n) {
-        return Replay::Unread;
-    }
-    let fault = checking::rewrite_fault(schema, predicate, pool, n[0], n[1], n[2], n[3], n[4]);
-    is_answer(field(line, 9), fault)
-}
-
-// Whether a recorded answer word is that of a refusal.
-fn is_answer(s: &[u8], fault: u8) -> Replay {
-    let mut answer = [0u8; 8];
-    let Filled::Bytes(n) = fill(s, &mut answer) else {
-        return Replay::Unread;
+    let [high, low, rest @ ..] = field else {
+        return None;
     };
-    if n != 8 {
-        return Replay::Unread;
+    let byte = digit(*high)? * 16 + digit(*low)?;
+    let Some((b'*', times)) = rest.split_first() else {
+        return Some(Run {
+            byte,
+            times: 1,
+            rest,
+        });
+    };
+    let end = times.iter().position(|b| *b == b'.')?;
+    Some(Run {
+        byte,
+        times: number_of(&times[..end])?,
+        rest: &times[end + 1..],
+    })
+}
+
+// A field's bytes.
+fn bytes_of<const N: usize>(field: &[u8]) -> Option<Buffer<N>> {
+    let mut out = Buffer::new();
+    if field == b"-".as_slice() {
+        return Some(out);
     }
-    if words::word_or_zero(&answer, 0) == (fault as u64) * 72057594037927936 {
-        Replay::Same
-    } else {
-        Replay::Differs
+    let mut rest = field;
+    while !rest.is_empty() {
+        let run = run_of(rest)?;
+        out.put(run.byte, run.times)?;
+        rest = run.rest;
     }
+    Some(out)
 }
 
-// The first n bytes of a buffer, or all of it.
-fn front(s: &[u8], n: usize) -> &[u8] {
-    if n <= s.len() { &s[..n] } else { s }
-}
-
-// Replays a line whose schema and predicate are read.
-fn replay_pool(line: &[u8], schema: &[u8], predicate: &[u8]) -> Replay {
-    let mut pool = [0u8; 66000];
-    match fill(field(line, 3), &mut pool) {
-        Filled::Bytes(n) => compare(line, schema, predicate, front(&pool, n)),
-        Filled::Unread => Replay::Unread,
+// Calls rewriting's checks, and says whether the answer is the recorded one.
+fn replay_line(line: &[u8]) -> Option<bool> {
+    let mut fields = line.split(|b| *b == b' ').skip(1);
+    let schema = bytes_of::<512>(fields.next()?)?;
+    let predicate = bytes_of::<4096>(fields.next()?)?;
+    let pool = bytes_of::<66000>(fields.next()?)?;
+    let mut n = [0; 5];
+    for x in &mut n {
+        *x = number_of(fields.next()?)?;
     }
-}
-
-// Replays a line whose schema is read.
-fn replay_predicate(line: &[u8], schema: &[u8]) -> Replay {
-    let mut predicate = [0u8; 4096];
-    match fill(field(line, 2), &mut predicate) {
-        Filled::Bytes(n) => replay_pool(line, schema, front(&predicate, n)),
-        Filled::Unread => Replay::Unread,
+    let answer = bytes_of::<8>(fields.next()?)?;
+    if answer.len < 8 {
+        return None;
     }
+    let fault = checking::rewrite_fault(
+        schema.bytes(),
+        predicate.bytes(),
+        pool.bytes(),
+        n[0],
+        n[1],
+        n[2],
+        n[3],
+        n[4],
+    );
+    Some(answer.room == [fault, 0, 0, 0, 0, 0, 0, 0])
 }
 
-// Replays a line.
-fn replay_line(line: &[u8]) -> Replay {
-    let mut schema = [0u8; 512];
-    match fill(field(line, 1), &mut schema) {
-        Filled::Bytes(n) => replay_predicate(line, front(&schema, n)),
-        Filled::Unread => Replay::Unread,
-    }
-}
-
-// Replays the first len bytes of a buffer; a line that fills it may be longer.
-fn replay_front(line: &[u8], len: usize) -> Replay {
-    if line.len() <= len {
-        return Replay::Unread;
-    }
-    replay_line(front(line, len))
-}
-
-// One more, up to the largest number.
-fn more(n: u64) -> u64 {
-    if n < 18446744073709551615 { n + 1 } else { n }
-}
-
-// Counts a line: replayed, of those that differ, and unread.
-fn tally(counts: &mut [u64; 3], came: Replay) {
-    match came {
-        Replay::Same => {
-            counts[0] = more(counts[0]);
+impl Counts {
+    // Counts a line by what it came to.
+    fn count(&mut self, same: Option<bool>) {
+        let Some(same) = same else {
+            self.unread = self.unread.saturating_add(1);
+            return;
+        };
+        self.replayed = self.replayed.saturating_add(1);
+        if !same {
+            self.differ = self.differ.saturating_add(1);
         }
-        Replay::Differs => {
-            counts[0] = more(counts[0]);
-            counts[1] = more(counts[1]);
+    }
+}
+
+impl Replay {
+    // Ends the line; one that fills its buffer may be longer, and is not read.
+    fn end_line(&mut self) {
+        let line = self.line.bytes();
+        let same = if line.len() < 4096 { replay_line(line) } else { None };
+        self.counts.count(same);
+        self.line = Buffer::new();
+    }
+
+    // Takes in one byte.
+    fn take(&mut self, byte: u8) {
+        if byte == b'\n' {
+            self.end_line();
+        } else {
+            let _ = self.line.put(byte, 1);
         }
-        Replay::Unread => {
-            counts[2] = more(counts[2]);
+    }
+
+    // Takes in a file; its end ends a line too. No file has as many parts as turns are counted.
+    fn read(&mut self, file: &mut (impl Read + Drop)) -> io::Result<()> {
+        for _ in 0..u64::MAX {
+            let mut part = [0u8; 4096];
+            let n = file.read(&mut part)?;
+            if n == 0 {
+                if 0 < self.line.len {
+                    self.end_line();
+                }
+                return Ok(());
+            }
+            for b in &part[..n] {
+                self.take(*b);
+            }
         }
+        Ok(())
     }
-}
-
-// Takes in one byte behind the len that the line has, and answers how many it has then.
-fn take_byte(line: &mut [u8], len: usize, b: u8, counts: &mut [u64; 3]) -> usize {
-    if b == b'\n' {
-        tally(counts, replay_front(&*line, len));
-        return 0;
-    }
-    if len < line.len() {
-        line[len] = b;
-        return len + 1;
-    }
-    len
-}
-
-// Takes in bytes one by one.
-fn take_bytes(bytes: &[u8], line: &mut [u8], len: usize, counts: &mut [u64; 3]) -> usize {
-    let mut n = len;
-    let mut i = 0;
-    while i < bytes.len() {
-        n = take_byte(line, n, bytes[i], counts);
-        i += 1;
-    }
-    n
-}
-
-// Takes in the end of the file, which ends a line too.
-fn finish(line: &[u8], len: usize, counts: &mut [u64; 3]) {
-    if 0 < len {
-        tally(counts, replay_front(line, len));
-    }
-}
-
-// Replays a file line by line; no file has as many parts as turns are counted.
-fn replay_file(file: &mut (impl Read + Drop), counts: &mut [u64; 3]) -> io::Result<()> {
-    let mut line = [0u8; 4096];
-    let mut len = 0;
-    let mut turns = u64::MAX;
-    while 0 < turns {
-        let mut part = [0u8; 4096];
-        let n = file.read(&mut part)?;
-        if n == 0 {
-            finish(&line, len, counts);
-            return Ok(());
-        }
-        len = take_bytes(&part[..n], &mut line, len, counts);
-        turns -= 1;
-    }
-    Ok(())
-}
-
-// Writes a count and what it counts.
-fn print_count(rt: &impl Print, n: u64, what: &str) -> io::Result<()> {
-    print!(rt; "{n}{what}")
 }
 
 // Replays the file of a name.
-fn replay_named(rt: &impl Files, name: &str, counts: &mut [u64; 3]) -> io::Result<()> {
+fn replay_named(rt: &impl Files, name: &str) -> io::Result<Counts> {
+    let mut replay = Replay {
+        line: Buffer::new(),
+        counts: Counts {
+            replayed: 0,
+            differ: 0,
+            unread: 0,
+        },
+    };
     let mut file = File::open(rt, name)?;
-    replay_file(&mut file, counts)
+    replay.read(&mut file)?;
+    Ok(replay.counts)
 }
 
 fn main(rt: HostRuntime) -> io::Result<()> {
-    let mut counts = [0u64; 3];
-    replay_named(&rt, "refusals.txt", &mut counts)?;
-    print_count(&rt, counts[0], " replayed, ")?;
-    print_count(&rt, counts[1], " differ, ")?;
-    print_count(&rt, counts[2], " unread\n")
+    let n = replay_named(&rt, "refusals.txt")?;
+    println!(rt; "{} replayed, {} differ, {} unread", n.replayed, n.differ, n.unread)
 }

@@ -1,9 +1,0 @@
--- The place stays within the field; the number is tested before it grows. Assumes nothing.
-use Rattle.std.proofs.Common.{◌≤◌, ◌-◌, length}
-use Rattle.replay_refusals.proofs.number_of.Given as goal
-
-abbrev pub invariant-loop-i : goal.invariant-loop-i
-invariant-loop-i l = l.i ≤ length l.s
-
-abbrev pub decreases-loop-i : goal.decreases-loop-i
-decreases-loop-i l = length l.s - l.i
