@@ -14,38 +14,38 @@ ghost use Rattle.table.specs.Tables.{known, folds as folds_of, known_fold};
 ghost use Rattle.table.specs.Rewriting.{constant_table, list_operator, list_joining, nested_table, list_table};
 ghost use Rattle.knowing.specs.Knowns.{join_known, KnownComparison, known_bounded, known_like, member_known};
 
-use increment::End;
 use kleene::{Joining, Truth};
 use literals::Literal;
 use operators::Operator;
 use predicate::Column;
 use table::{Folded, Known};
-use turning::Turned;
+use walking::Request;
 use words::Range;
+
+// A list's node: whether it is NOT IN, its column and flips, the place of its node word, and how many literals stand behind that.
+#[derive(Clone, Copy)]
+pub struct Members {
+    pub negated: bool,
+    pub column: Column,
+    pub flips: u8,
+    pub at: usize,
+    pub count: u16,
+}
 
 // How two rewritten parts are joined: a constant side decides or vanishes.
 pub fn folds(j: Joining, l: Known, r: Known) -> Folded
     ensures { result ≡ folds_of j l r }
 {
-    match j {
-        Joining::And => match l {
-            Known::False => Folded::Fixed(false),
-            Known::True => Folded::Right,
-            Known::Open => match r {
-                Known::False => Folded::Fixed(false),
-                Known::True => Folded::Left,
-                Known::Open => Folded::Both,
-            },
-        },
-        Joining::Or => match l {
-            Known::True => Folded::Fixed(true),
-            Known::False => Folded::Right,
-            Known::Open => match r {
-                Known::True => Folded::Fixed(true),
-                Known::False => Folded::Left,
-                Known::Open => Folded::Both,
-            },
-        },
+    match (j, l, r) {
+        (Joining::And, Known::False, _) | (Joining::And, Known::Open, Known::False) =>
+            Folded::Fixed(false),
+        (Joining::Or, Known::True, _) | (Joining::Or, Known::Open, Known::True) => Folded::Fixed(
+            true,
+        ),
+        (Joining::And, Known::True, _) | (Joining::Or, Known::False, _) => Folded::Right,
+        (Joining::And, Known::Open, Known::True) | (Joining::Or, Known::Open, Known::False) =>
+            Folded::Left,
+        (_, Known::Open, Known::Open) => Folded::Both,
     }
 }
 
@@ -54,7 +54,8 @@ pub fn known_fold(f: Folded, l: Known, r: Known) -> Known
     ensures { result ≡ known_fold f l r }
 {
     match f {
-        Folded::Fixed(b) => { if b { Known::True } else { Known::False } }
+        Folded::Fixed(true) => Known::True,
+        Folded::Fixed(false) => Known::False,
         Folded::Left => l,
         Folded::Right => r,
         Folded::Both => Known::Open,
@@ -74,8 +75,7 @@ pub fn known_constant(t: Truth) -> Known
 {
     match t {
         Truth::False => Known::False,
-        Truth::Unknown => Known::True,
-        Truth::True => Known::True,
+        Truth::Unknown | Truth::True => Known::True,
     }
 }
 
@@ -91,8 +91,8 @@ pub fn known_comparison(
     ensures { KnownComparison schema.now o c flips first l result }
 {
     match turning::turn(predicate::type_in(schema, c), o, flips, first, l) {
-        Turned::Against(_, _) => Known::Open,
-        Turned::Unhandled => Known::True,
+        Some(_) => Known::Open,
+        None => Known::True,
     }
 }
 
@@ -108,10 +108,11 @@ fn known_pattern(pattern: &[u8]) -> Known
     requires { Utf8 pattern.now × (length pattern.now ≤ max_literal_bytes) }
     ensures { result ≡ known_bounded (upper_of pattern.now) }
 {
+    // No heap: room for the longest upper bound, one byte more than a pattern.
     let mut upper = [0; 1025];
     match increment::upper_bound(pattern, &mut upper) {
-        End::Until(_) => Known::Open,
-        End::Absent => Known::True,
+        Some(_) => Known::Open,
+        None => Known::True,
     }
 }
 
@@ -124,10 +125,8 @@ pub fn known_like(pool: &[u8], negated: bool, l: Literal) -> Known
         return Known::True;
     }
     match l {
-        Literal::Null => Known::True,
-        Literal::Int(_) => Known::True,
         Literal::Text(r) => known_pattern(clipped(pool, r)),
-        Literal::Truth(_) => Known::True,
+        Literal::Null | Literal::Int(_) | Literal::Truth(_) => Known::True,
     }
 }
 
@@ -150,66 +149,40 @@ pub fn list_joining(negated: bool) -> Joining
 }
 
 // What a list's member comes to whose literal word stands at a place.
-pub fn known_member(
-    schema: &[u8],
-    pool: &[u8],
-    words: &[u8],
-    negated: bool,
-    c: Column,
-    flips: u8,
-    at: usize,
-) -> Known
-    ensures { result ≡ member_known schema.now pool.now (words_of words.now) negated c flips at }
+pub fn known_member(r: &Request<'_>, m: Members, at: usize) -> Known
+    ensures { result ≡ member_known r.now.schema.now r.now.pool.now (words_of r.now.words.now) m.negated m.column m.flips at }
 {
-    let l = literals::literal_of(pool, words::word_or_zero(words, at));
-    known_comparison(schema, list_operator(negated), c, flips, false, l)
+    let l = literals::literal_of(r.pool, words::word_or_zero(r.words, at));
+    known_comparison(
+        r.schema,
+        list_operator(m.negated),
+        m.column,
+        m.flips,
+        false,
+        l,
+    )
 }
 
-// What the n literals of a list come to, joined from the left.
-fn known_members(
-    schema: &[u8],
-    pool: &[u8],
-    words: &[u8],
-    negated: bool,
-    c: Column,
-    flips: u8,
-    at: usize,
-    n: usize,
-) -> Known
-    requires { Near words.now at × (0 < n) × (n ≤ 65535) }
-    ensures { result ≡ known (nested_table schema.now negated c flips (values_at pool.now (words_of words.now) n (at + 1))) }
+// What the literals of a list come to, joined from the left.
+fn known_members(r: &Request<'_>, m: Members) -> Known
+    requires { Near r.now.words.now m.at × (0 < m.count) }
+    ensures { result ≡ known (nested_table r.now.schema.now m.negated m.column m.flips (values_at r.now.pool.now (words_of r.now.words.now) m.count (m.at + 1))) }
 {
-    let mut k = known_member(schema, pool, words, negated, c, flips, at + 1);
-    let mut i = 1;
-    while i < n {
-        let m = known_member(schema, pool, words, negated, c, flips, at + 1 + i);
-        k = join_known(list_joining(negated), k, m);
-        i += 1;
+    let first = m.at + 1;
+    let mut k = known_member(r, m, first);
+    for i in 1..usize::from(m.count) {
+        k = join_known(list_joining(m.negated), k, known_member(r, m, first + i));
     }
     k
 }
 
-// What a list comes to whose node word stands at a place.
-pub fn known_list(
-    schema: &[u8],
-    pool: &[u8],
-    words: &[u8],
-    limit: usize,
-    negated: bool,
-    c: Column,
-    flips: u8,
-    at: usize,
-    count: u16,
-) -> Known
-    requires { Near words.now at }
-    ensures { result ≡ known (list_table limit schema.now negated c flips (values_at pool.now (words_of words.now) count (at + 1))) }
+// What a list comes to.
+pub fn known_list(r: &Request<'_>, m: Members) -> Known
+    requires { Near r.now.words.now m.at }
+    ensures { result ≡ known (list_table r.now.limit r.now.schema.now m.negated m.column m.flips (values_at r.now.pool.now (words_of r.now.words.now) m.count (m.at + 1))) }
 {
-    let n = count as usize;
-    if n == 0 {
+    if m.count == 0 || r.limit < usize::from(m.count) {
         return Known::True;
     }
-    if limit < n {
-        return Known::True;
-    }
-    known_members(schema, pool, words, negated, c, flips, at, n)
+    known_members(r, m)
 }
