@@ -1,5 +1,5 @@
 -- What one node word is judged: its fault, or the node that has none. Assumes nothing.
-use Rattle.std.specs.Prelude.{◌≡◌, refl, List}
+use Rattle.std.specs.Prelude.{◌≡◌, refl, List, Result, Ok, Err}
 use Prim.Native.Nat.{ℕ, zero, suc, ◌-◌}
 use Rattle.std.proofs.Common.{arith}
 use Rattle.predicate.specs.Predicates.{node_at}
@@ -7,9 +7,18 @@ use Rattle.predicate.specs.Checking.{word_here, after_node, check_behind, node_f
 use Rattle.predicate.proofs.CheckingLaws.{check_fault, check_node}
 use Rattle.predicate.specs.declared.Node.{Node}
 use Rattle.predicate.specs.declared.Progress.{Progress}
-use Rattle.predicate.specs.declared.Checked.TheVariants.{Refused}
-use Rattle.checking.specs.declared.Judged.{Judged}
-use Rattle.checking.specs.declared.Judged.TheVariants.{Faulty, Fine}
+use Rattle.predicate.specs.Checked.{Refused}
+use Rattle.limits.specs.Refusals.{number_of}
+use Rattle.limits.specs.declared.Refusal.{Refusal}
+
+pub data Judged : Type 0 where
+  Faulty : ℕ → Judged
+  Fine : Node → Judged
+
+-- what the code's answer says
+abbrev pub judged_of : Result Node Refusal → Judged
+judged_of (Ok n) = Fine n
+judged_of (Err r) = Faulty (number_of r)
 
 abbrev pub judged : ℕ → Node → Judged
 judged zero n = Fine n

@@ -17,8 +17,8 @@ use Rattle.predicate.specs.declared.Column.{Column}
 use Rattle.predicate.specs.declared.Node.{Node}
 use Rattle.predicate.specs.declared.Node.TheVariants.{Constant, Join, Not, TruthColumn, IsNull, IsNotNull, Comparison, List as InList, Like}
 use Rattle.predicate.specs.declared.Progress.{Progress}
-use Rattle.predicate.specs.declared.Checked.{Checked}
-use Rattle.predicate.specs.declared.Checked.TheVariants.{Passed}
+use Rattle.predicate.specs.Checked.{Checked}
+use Rattle.predicate.specs.Checked.{Passed}
 use Rattle.predicate.specs.Accepted.{Accepted, Fine, Leaf, Literals, Pattern, Whole, fine_columns, leaves_nodes, no_literals, one_more, suited_pattern, suited_value}
 
 module _ (schema pool ws : List ℕ) where

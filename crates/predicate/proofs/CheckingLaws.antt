@@ -20,8 +20,7 @@ use Rattle.predicate.specs.declared.Column.{Column}
 use Rattle.predicate.specs.declared.Node.{Node}
 use Rattle.predicate.specs.declared.Node.TheVariants.{Constant, Join, Not, TruthColumn, IsNull, IsNotNull, Comparison, List as InList, Like}
 use Rattle.predicate.specs.declared.Progress.{Progress}
-use Rattle.predicate.specs.declared.Checked.{Checked}
-use Rattle.predicate.specs.declared.Checked.TheVariants.{Refused, Passed}
+use Rattle.predicate.specs.Checked.{Checked, Refused, Passed}
 use Rattle.predicate.specs.CheckingLaws.{Answers, Columned, Fault, LiteralSays, columned_says, no_fault, passes_answers, passes_fault, passes_says, present, tests_fault, then_answers}
 
 pub literal_says : (pool : List ℕ) (as_pattern : Bool) (type : ℕ) (s : Progress) (w : ℕ) → literal_fault pool as_pattern type s w ≡ 0

@@ -5,11 +5,7 @@ use Rattle.words.specs.Word.{words_of}
 use Rattle.predicate.specs.Checking.{schema_fine, predicate_fault}
 
 -- the lengths of the four lent outputs
-pub record Rooms : Type 0 where
-  pub table : ℕ
-  pub pool : ℕ
-  pub statistics : ℕ
-  pub guarantees : ℕ
+pub use Rattle.predicate.specs.declared.Rooms.{Rooms}
 
 abbrev pub roomy : Rooms → Bool
 roomy r =

@@ -12,8 +12,7 @@ use Rattle.predicate.specs.declared.Node.{Node}
 use Rattle.predicate.specs.declared.Node.TheVariants.{Constant, Join, Not, TruthColumn, IsNull, IsNotNull, Comparison, List as InList, Like}
 use Rattle.predicate.specs.declared.Shape.{Shape}
 use Rattle.predicate.specs.declared.Progress.{Progress}
-use Rattle.predicate.specs.declared.Checked.{Checked}
-use Rattle.predicate.specs.declared.Checked.TheVariants.{Refused, Passed}
+use Rattle.predicate.specs.Checked.{Checked, Refused, Passed}
 
 -- ---- the schema
 

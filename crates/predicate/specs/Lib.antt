@@ -1,6 +1,7 @@
 pub mod Nodes
 pub mod Predicates
 pub mod Measures
+pub mod Checked
 pub mod Checking
 pub mod KindLaws
 pub mod Meaning

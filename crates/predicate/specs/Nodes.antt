@@ -1,16 +1,16 @@
 -- A predicate node's word, and the node that it stands for with the literal word behind it. Assumes nothing.
-use Rattle.std.specs.Prelude.{Bool, List, [], ◌∷◌, ℕ, get_or, eqb}
+use Rattle.std.specs.Prelude.{Bool, List, [], ◌∷◌, ℕ, get_or, eqb, Option, Some, None}
 use Rattle.words.specs.Layout.{field}
 use Rattle.operators.specs.Operators.{operator_of}
 use Rattle.operators.specs.declared.Operator.{Operator}
 use Rattle.operators.specs.declared.Operator.TheVariants.{Equal}
-use Rattle.operators.specs.declared.OperatorRead.{OperatorRead}
-use Rattle.operators.specs.declared.OperatorRead.TheVariants.{Known, Unknown as NoOperator}
 use Rattle.kleene.specs.declared.Truth.{Truth}
 use Rattle.kleene.specs.declared.Truth.TheVariants.{False, Unknown, True}
 use Rattle.kleene.specs.declared.Joining.TheVariants.{And, Or}
 use Rattle.literals.specs.Literals.{literal_of}
 use Rattle.predicate.specs.declared.Column.{Column}
+use Rattle.predicate.specs.declared.Kind.{Kind}
+use Rattle.predicate.specs.declared.Kind.TheVariants as Kinds
 use Rattle.predicate.specs.declared.Node.{Node}
 use Rattle.predicate.specs.declared.Node.TheVariants.{Constant, Join, Not, TruthColumn, IsNull, IsNotNull, Comparison, List as InList, Like}
 
@@ -42,14 +42,33 @@ zero_field w = field node_layout 6 w
 abbrev pub column_of : ℕ → Column
 column_of w = record { 0 = column_field w }
 
+-- in the order of their numbers
+abbrev pub kinds : List (Option Kind)
+kinds =
+    Some Kinds.Constant
+    ∷ Some Kinds.And
+    ∷ Some Kinds.Or
+    ∷ Some Kinds.Not
+    ∷ Some Kinds.TruthColumn
+    ∷ Some Kinds.IsNull
+    ∷ Some Kinds.IsNotNull
+    ∷ Some Kinds.Comparison
+    ∷ Some Kinds.List
+    ∷ Some Kinds.Like
+    ∷ []
+
+-- the kind of a number, if it is one
+abbrev pub kind_named : ℕ → Option Kind
+kind_named n = get_or kinds n None
+
 -- constants: 0 false, 1 true, 2 null
 abbrev pub constant_of : ℕ → Truth
 constant_of n = get_or (False ∷ True ∷ Unknown ∷ []) n Unknown
 
 -- an unknown code reads as =
-abbrev pub or_equal : OperatorRead → Operator
-or_equal (Known o) = o
-or_equal NoOperator = Equal
+abbrev pub or_equal : Option Operator → Operator
+or_equal (Some o) = o
+or_equal None = Equal
 
 -- operators of kinds 8 and 9: 0 IN or LIKE, 1 NOT IN or NOT LIKE
 abbrev pub negated_of : ℕ → Bool

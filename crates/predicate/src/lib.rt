@@ -1,16 +1,17 @@
 // Predicates: columns, and the nodes that their words stand for.
 #![tactic(auto)]
 
-ghost use Rattle.std.specs.Prelude.{◌≡◌};
+ghost use Rattle.std.specs.Prelude.{◌≡◌, ◌+◌, ◌^◌, ◌<◌};
 ghost use Rattle.words.specs.Word.{words_of};
+ghost use Rattle.literals.specs.Literals.{length_of};
 ghost use Rattle.operators.specs.Operators.{operator_of};
-ghost use Rattle.predicate.specs.Nodes.{kind_of, operator_field, column_of, flips_of, first_field, count_of, zero_field, constant_of, or_equal, negated_of, node_of};
+ghost use Rattle.predicate.specs.Nodes.{kind_of, kind_named, operator_field, column_of, flips_of, first_field, count_of, zero_field, constant_of, or_equal, negated_of, node_of};
 ghost use Rattle.predicate.specs.Predicates.{node_at};
-ghost use Rattle.predicate.specs.Checking.{type_in};
+ghost use Rattle.predicate.specs.Checking.{type_in, after_node, after_literal};
 
 use kleene::{Joining, Truth};
 use literals::Literal;
-use operators::{Operator, OperatorRead};
+use operators::Operator;
 
 // A column of the schema.
 #[derive(Clone, Copy)]
@@ -43,8 +44,53 @@ pub struct Shape {
     pub count: bool,
 }
 
-// How far checking has come: the next word's place, and the nodes, list literals and literal bytes so far.
+// The kinds of node words, in the order of their numbers.
+#[derive(Clone, Copy, Debug, PartialEq, Eq)]
+pub enum Kind {
+    Constant,
+    And,
+    Or,
+    Not,
+    TruthColumn,
+    IsNull,
+    IsNotNull,
+    Comparison,
+    List,
+    Like,
+}
+
+impl Kind {
+    // The kind of a number, if it is one.
+    pub fn of_number(n: u8) -> Option<Kind>
+        ensures { result ≡ kind_named n }
+    {
+        match n {
+            0 => Some(Kind::Constant),
+            1 => Some(Kind::And),
+            2 => Some(Kind::Or),
+            3 => Some(Kind::Not),
+            4 => Some(Kind::TruthColumn),
+            5 => Some(Kind::IsNull),
+            6 => Some(Kind::IsNotNull),
+            7 => Some(Kind::Comparison),
+            8 => Some(Kind::List),
+            9 => Some(Kind::Like),
+            _ => None,
+        }
+    }
+}
+
+// The lengths of the four outputs that a rewriting call lends.
 #[derive(Clone, Copy)]
+pub struct Rooms {
+    pub table: usize,
+    pub pool: usize,
+    pub statistics: usize,
+    pub guarantees: usize,
+}
+
+// How far checking has come: the next word's place, and the nodes, list literals and literal bytes so far.
+#[derive(Clone, Copy, Default)]
 pub struct Progress {
     pub place: usize,
     pub nodes: usize,
@@ -52,34 +98,35 @@ pub struct Progress {
     pub bytes: usize,
 }
 
-// A refusal's number, or the progress so far.
-#[derive(Clone, Copy)]
-pub enum Checked {
-    Refused(u8),
-    Passed(Progress),
-}
+impl Progress {
+    // Behind a node's word.
+    pub fn after_node(self, w: u64) -> Progress
+        requires place { self.place + 1 < 2 ^ 64 }
+        requires nodes { self.nodes + 1 < 2 ^ 64 }
+        requires listed { self.listed + count_of w < 2 ^ 64 }
+        ensures { result ≡ after_node self w }
+    {
+        Progress {
+            place: self.place + 1,
+            nodes: self.nodes + 1,
+            listed: self.listed + usize::from(count_of(w)),
+            bytes: self.bytes,
+        }
+    }
 
-// The kinds of node words.
-impl Node {
-    pub const CONSTANT: u8 = 0;
-
-    pub const AND: u8 = 1;
-
-    pub const OR: u8 = 2;
-
-    pub const NOT: u8 = 3;
-
-    pub const TRUTH_COLUMN: u8 = 4;
-
-    pub const IS_NULL: u8 = 5;
-
-    pub const IS_NOT_NULL: u8 = 6;
-
-    pub const COMPARISON: u8 = 7;
-
-    pub const LIST: u8 = 8;
-
-    pub const LIKE: u8 = 9;
+    // Behind a literal's word.
+    pub fn after_literal(self, w: u64) -> Progress
+        requires place { self.place + 1 < 2 ^ 64 }
+        requires bytes { self.bytes + length_of w < 2 ^ 64 }
+        ensures { result ≡ after_literal self w }
+    {
+        Progress {
+            place: self.place + 1,
+            nodes: self.nodes,
+            listed: self.listed,
+            bytes: self.bytes + literals::length_of(w),
+        }
+    }
 }
 
 // A node word's kind.
@@ -143,13 +190,10 @@ fn constant_of(n: u8) -> Truth
 }
 
 // The operator of a code; an unknown one reads as =.
-fn operator_or_equal(n: u8) -> Operator
+pub fn operator_or_equal(n: u8) -> Operator
     ensures { result ≡ or_equal (operator_of n) }
 {
-    match Operator::of_code(n) {
-        OperatorRead::Known(o) => o,
-        OperatorRead::Unknown => Operator::Equal,
-    }
+    Operator::of_code(n).unwrap_or(Operator::Equal)
 }
 
 // Whether a list or LIKE word is NOT IN or NOT LIKE.
@@ -163,24 +207,24 @@ fn is_negated(w: u64) -> bool
 pub fn node_of(pool: &[u8], w: u64, l: u64) -> Node
     ensures { result ≡ node_of pool.now w l }
 {
-    match kind_of(w) {
-        Node::CONSTANT => Node::Constant(constant_of(operator_of(w))),
-        Node::AND => Node::Join(Joining::And),
-        Node::OR => Node::Join(Joining::Or),
-        Node::NOT => Node::Not,
-        Node::TRUTH_COLUMN => Node::TruthColumn(column_of(w)),
-        Node::IS_NULL => Node::IsNull(column_of(w)),
-        Node::IS_NOT_NULL => Node::IsNotNull(column_of(w)),
-        Node::COMPARISON => Node::Comparison(
+    match Kind::of_number(kind_of(w)) {
+        Some(Kind::Constant) => Node::Constant(constant_of(operator_of(w))),
+        Some(Kind::And) => Node::Join(Joining::And),
+        Some(Kind::Or) => Node::Join(Joining::Or),
+        Some(Kind::Not) => Node::Not,
+        Some(Kind::TruthColumn) => Node::TruthColumn(column_of(w)),
+        Some(Kind::IsNull) => Node::IsNull(column_of(w)),
+        Some(Kind::IsNotNull) => Node::IsNotNull(column_of(w)),
+        Some(Kind::Comparison) => Node::Comparison(
             operator_or_equal(operator_of(w)),
             column_of(w),
             flips_of(w),
             first_of(w) == 1,
             literals::literal_of(pool, l),
         ),
-        Node::LIST => Node::List(is_negated(w), column_of(w), flips_of(w), count_of(w)),
-        Node::LIKE => Node::Like(is_negated(w), column_of(w), literals::literal_of(pool, l)),
-        _ => Node::Constant(Truth::Unknown),
+        Some(Kind::List) => Node::List(is_negated(w), column_of(w), flips_of(w), count_of(w)),
+        Some(Kind::Like) => Node::Like(is_negated(w), column_of(w), literals::literal_of(pool, l)),
+        None => Node::Constant(Truth::Unknown),
     }
 }
 
@@ -200,6 +244,5 @@ pub fn node_at(pool: &[u8], words: &[u8], at: usize) -> Node
 pub fn type_in(schema: &[u8], c: Column) -> u8
     ensures { result ≡ type_in schema.now c.0 }
 {
-    let i = c.0 as usize;
-    if i < schema.len() { schema[i] } else { 0 }
+    schema.get(usize::from(c.0)).copied().unwrap_or(0)
 }
