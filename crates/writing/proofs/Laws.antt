@@ -19,9 +19,11 @@ use Rattle.statistics.specs.Statistics.{place_of}
 use Rattle.table.specs.Tables.{Table, against}
 use Rattle.table.specs.Encoding.{table_word, against_kind, pool_of, table_words}
 use Rattle.table.specs.Measures.{table_width}
+use Rattle.listing.specs.Listing.{list_of}
 use Rattle.writing.specs.declared.Spot.{Spot}
+use Rattle.writing.specs.declared.Writer.{Writer}
 use Rattle.writing.specs.WritingLaws.{spots, words_then}
-use Rattle.writing.specs.Writing.{Wide, Room, Clipped, Head, Put, Wrote}
+use Rattle.writing.specs.Writing.{Wide, Room, Clipped, Head, Put, Wrote, HeadBy, WroteBy}
 
 -- a node of one word
 pub wrote_leaf : (t : Table) (list : List Statistic) (w : ℕ) (s r : Spot) (old new pool : List ℕ) → table_words list s.off t ≡ w ∷ []
@@ -63,3 +65,12 @@ pub clip_text : (pool : List ℕ) (r k : Range) → LiteralFits (Text r) → Cut
 clip_text pool r k h c =
     let s = c.short in
     record { same = ap text c.same; ready = record { inside = c.inside; fits = omega arith } }
+
+-- a node of one word, said of a writer
+pub leaf_by : (t : Table) (word : ℕ) (w v : Writer) → table_words (list_of w.list.now) w.at.off t ≡ word ∷ [] → pool_of t ≡ [] → table_width t ≡ 1
+    → HeadBy (word ∷ []) w v → WroteBy t w v
+leaf_by t word w v e p n h =
+    record {
+      wrote = rw h.pool (wrote_leaf t (list_of w.list.now) word w.at v.at w.table.now v.table.now w.pool.now e p n h.head);
+      keeps = h.keeps;
+    }

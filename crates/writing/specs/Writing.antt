@@ -57,17 +57,23 @@ WideFor n w = Wide n w.at w.table.now
 abbrev pub RoomFor : Table → Writer → Type 0
 RoomFor t w = Room t w.at w.table.now w.pool.now
 
-abbrev pub Keeps : Writer → Writer → Type 0
-Keeps w v = (v.table.ghost_name ≡ w.table.ghost_name) × (v.pool.ghost_name ≡ w.pool.ghost_name) × (v.list ≡ w.list)
+pub record Keeps (w v : Writer) : Type 0 where
+  pub table : v.table.ghost_name ≡ w.table.ghost_name
+  pub pool : v.pool.ghost_name ≡ w.pool.ghost_name
+  pub list : v.list ≡ w.list
 
 -- words put, the pool as it was
-abbrev pub HeadBy : List ℕ → Writer → Writer → Type 0
-HeadBy ws w v = Head ws w.at w.table.now v.table.now v.at × (v.pool.now ≡ w.pool.now) × Keeps w v
+pub record HeadBy (ws : List ℕ) (w v : Writer) : Type 0 where
+  pub head : Head ws w.at w.table.now v.table.now v.at
+  pub pool : v.pool.now ≡ w.pool.now
+  pub keeps : Keeps w v
 
 -- words put, and bytes in the pool
-abbrev pub PutBy : List ℕ → List ℕ → Writer → Writer → Type 0
-PutBy ws bs w v = Put ws bs w.at w.table.now v.table.now w.pool.now v.pool.now v.at × Keeps w v
+pub record PutBy (ws bs : List ℕ) (w v : Writer) : Type 0 where
+  pub put : Put ws bs w.at w.table.now v.table.now w.pool.now v.pool.now v.at
+  pub keeps : Keeps w v
 
 -- a table written
-abbrev pub WroteBy : Table → Writer → Writer → Type 0
-WroteBy t w v = Wrote t (list_of w.list.now) w.at w.table.now v.table.now w.pool.now v.pool.now v.at × Keeps w v
+pub record WroteBy (t : Table) (w v : Writer) : Type 0 where
+  pub wrote : Wrote t (list_of w.list.now) w.at w.table.now v.table.now w.pool.now v.pool.now v.at
+  pub keeps : Keeps w v

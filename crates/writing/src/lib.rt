@@ -244,7 +244,14 @@ impl<'a> Writer<'a> {
     }
 
     // Writes a statistic against a literal of the input pool.
-    pub fn write_against(&mut self, input: &[u8], o: Operator, x: Statistic, first: bool, l: Literal)
+    pub fn write_against(
+        &mut self,
+        input: &[u8],
+        o: Operator,
+        x: Statistic,
+        first: bool,
+        l: Literal,
+    )
         requires { Few self.old.list.now × LiteralFits l × RoomFor (against o x first (value_of input.now l)) self.old }
         ensures { WroteBy (against o x first (value_of input.now l)) self.old self.new }
     {
