@@ -15,9 +15,9 @@ use Rattle.guarantees.specs.Guarantees.{Guarantee, guarantees, guarantee_words}
 use Rattle.guarantees.specs.GuaranteeLaws.{length_guarantees}
 use Rattle.walking.specs.Places.{next_width}
 use Rattle.promising.specs.Wrote.{Room, Wrote}
-use Rattle.promising.specs.declared.Written.{Written}
+use Rattle.words.specs.declared.Walked.{Walked}
 
-pub wrote_none : (r : Read) (at n m : ℕ) (old : List ℕ) → m ≡ r.next → guarantees at r.predicate ≡ [] → Wrote r at n old old (record { next = m; n = n })
+pub wrote_none : (r : Read) (at n m : ℕ) (old : List ℕ) → m ≡ r.next → guarantees at r.predicate ≡ [] → Wrote r at n old old (record { value = n; next = m })
 wrote_none r at n m old e k =
     record { next = e; count = rw k (omega arith); bytes = rw (k, bytes_none) }
 
@@ -25,7 +25,7 @@ one_long : (gs : List Guarantee) (w : ℕ) → guarantee_words gs ≡ w ∷ [] �
 one_long gs w k = sym (length_guarantees gs) ∙ rw k
 
 pub wrote_one : (r : Read) (at n m w : ℕ) (old new : List ℕ) → m ≡ r.next → guarantee_words (guarantees at r.predicate) ≡ w ∷ []
-    → new ≡ sets old (8 * n) (word_bytes w) → Wrote r at n old new (record { next = m; n = n + 1 })
+    → new ≡ sets old (8 * n) (word_bytes w) → Wrote r at n old new (record { value = n + 1; next = m })
 wrote_one r at n m w old new e k b =
     record { next = e; count = rw (one_long (guarantees at r.predicate) w k); bytes = rw (k, bytes_one) b }
 
@@ -83,7 +83,7 @@ module _ (pool ws : List ℕ) (d at n : ℕ) (out : List ℕ) (some : d ≡ 0 �
           room = omega (arith, h.room, all_long);
         }
 
-    module _ (new : List ℕ) (w : Written) (a : Wrote first (at + 1) n out new w) where
+    module _ (new : List ℕ) (w : Walked ℕ) (a : Wrote first (at + 1) n out new w) where
       -- where the second begins
       begins : w.next ≡ at + 1 + width first.predicate
       begins = a.next ∙ next_width pool ws (d - 1) (at + 1) room_first.deep
@@ -91,7 +91,7 @@ module _ (pool ws : List ℕ) (d at n : ℕ) (out : List ℕ) (some : d ≡ 0 �
       same : length new ≡ length out
       same = rw (a.bytes, length-sets)
 
-      pub room_second : Room (child w.next).predicate (d - 1) w.next w.n new
+      pub room_second : Room (child w.next).predicate (d - 1) w.next w.value new
       room_second =
           let e : child w.next ≡ second = rw a.next in
           rw (e, begins)
@@ -101,17 +101,17 @@ module _ (pool ws : List ℕ) (d at n : ℕ) (out : List ℕ) (some : d ≡ 0 �
             room = omega (arith, h.room, all_long, a.count, same);
           })
 
-      pub wrote_both : (end : List ℕ) (v : Written) → Wrote (child w.next) w.next w.n new end v → Wrote (then_both And child first) at n out end v
+      pub wrote_both : (end : List ℕ) (v : Walked ℕ) → Wrote (child w.next) w.next w.value new end v → Wrote (then_both And child first) at n out end v
       wrote_both end v b =
           let xs : List Guarantee = guarantees (at + 1) first.predicate in
           let ys : List Guarantee = guarantees (at + 1 + width first.predicate) second.predicate in
           let e : child w.next ≡ second = rw a.next in
           let ey : guarantees w.next (child w.next).predicate ≡ ys = rw (e, begins) in
-          let place : 8 * w.n ≡ 8 * n + length (bytes_of (guarantee_words xs)) = rw (length_bytes, length_guarantees) (omega (arith, a.count)) in
+          let place : 8 * w.value ≡ 8 * n + length (bytes_of (guarantee_words xs)) = rw (length_bytes, length_guarantees) (omega (arith, a.count)) in
           record {
             next = b.next ∙ ap (λ (x : Read). x.next) e;
             count = omega (arith, b.count, a.count, all_long, ap length ey);
             bytes =
                 b.bytes ∙ rw (ey, a.bytes, both_give, words_append, bytes_append)
-                (sets_then out (8 * n) (8 * w.n) (bytes_of (guarantee_words xs)) (bytes_of (guarantee_words ys)) place);
+                (sets_then out (8 * n) (8 * w.value) (bytes_of (guarantee_words xs)) (bytes_of (guarantee_words ys)) place);
           }

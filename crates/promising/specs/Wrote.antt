@@ -9,7 +9,7 @@ use Rattle.predicate.specs.Measures.{width, depth}
 use Rattle.predicate.specs.Accepted.{width_most, Whole}
 use Rattle.guarantees.specs.Guarantees.{guarantees, guarantee_words}
 use Rattle.guarantees.proofs.Bounds.{guarantees_most}
-use Rattle.promising.specs.declared.Written.{Written}
+use Rattle.words.specs.declared.Walked.{Walked}
 
 -- a predicate at a place, read with a depth d that sufficed, whose places are 16 bits and whose guarantees have room behind n others
 pub record Room (p : Predicate) (d at n : ℕ) (out : List ℕ) : Type 0 where
@@ -18,9 +18,9 @@ pub record Room (p : Predicate) (d at n : ℕ) (out : List ℕ) : Type 0 where
   pub room : 8 * (n + length (guarantees at p)) ≤ length out
 
 -- the guarantees of the predicate that is read as r at a place stand behind n others
-pub record Wrote (r : Read) (at n : ℕ) (old new : List ℕ) (w : Written) : Type 0 where
+pub record Wrote (r : Read) (at n : ℕ) (old new : List ℕ) (w : Walked ℕ) : Type 0 where
   pub next : w.next ≡ r.next
-  pub count : w.n ≡ n + length (guarantees at r.predicate)
+  pub count : w.value ≡ n + length (guarantees at r.predicate)
   pub bytes : new ≡ sets old (8 * n) (bytes_of (guarantee_words (guarantees at r.predicate)))
 
 -- an accepted predicate has that room

@@ -1,22 +1,12 @@
--- Some literal is not null where one of those from i on is. Assumes nothing.
-use borrow.Author.Rules.{rules}
-use mathlib.Core.Path.{sym, ◌∙◌}
-use native.Mathlib.Nat.{add-zero, sub-zero}
-use Rattle.promising.proofs.Laws.{any_here, any_next, any_none}
+use Rattle.std.proofs.Common.{rules, ◌≡◌, ◌+◌, ◌^◌, ◌<◌, ℕ, ◌-◌, ◌*◌, ◌≤◌, length, ◌/◌, ◌%◌, Bool, true, false, nat_eq, nat_lt, List, [], ◌∷◌, ◌++◌, slice_index_or, slice_set, bit_and, bit_or, Fits, w8, w32, w64, Bor, MutBor}
+use Rattle.words.specs.Word.{words_of}
+use Rattle.predicate.specs.Predicates.{node_at, predicate_at}
+use Rattle.guarantees.specs.Guarantees.{guarantee_word}
+use Rattle.walking.specs.Places.{Near}
+use Rattle.promising.specs.Promises.{bare, is_value, any_value, of_set, of_operator, promise_of}
+use Rattle.promising.specs.Wrote.{Room, Wrote}
 use Rattle.promising.proofs.any_value.Goals as goal
 
-pub loop-i-init : goal.loop-i-init
-loop-i-init c =
-    (search rules, rw (sub-zero, add-zero))
-
-pub returns-then-type_of-ne-NULL : goal.returns-then-type_of-ne-NULL
-returns-then-type_of-ne-NULL c =
-    sym (c.loop-i.invariant.1 ∙ any_here _ _ _ _ c.loop-i-test.true (rw (c.type_of.ensures, c.word_or_zero-w.ensures) at c.if-type_of-ne-NULL.true))
-
-pub loop-i-preserved : goal.loop-i-preserved
-loop-i-preserved c =
-    (search rules, c.loop-i.invariant.1 ∙ any_next _ _ _ _ c.loop-i-test.true (rw (c.type_of.ensures, c.word_or_zero-w.ensures) at c.if-type_of-ne-NULL.false))
-
+-- src/lib.rt:44:1
 pub returns : goal.returns
-returns c =
-    sym (c.loop-i.invariant.1 ∙ any_none _ _ _ _ c.loop-i-test.false)
+returns c = ?
