@@ -6,7 +6,7 @@ use Prim.Native.Nat.{ℕ, zero, suc, ◌+◌, ◌-◌, ◌≤◌, ◌<◌}
 use native.Mathlib.Omega.{arith}
 use lib.ListN.{get_or}
 use lib.Dec.{eqb}
-use borrow.Author.Tests.{eq-eqb, ne_eqb}
+use Rattle.std.specs.List.{list_any, range_with_len}
 use Rattle.operators.specs.declared.Operator.{Operator}
 use Rattle.operators.specs.declared.Operator.TheVariants.{Equal, NotEqual, Below, AtMost, Above, AtLeast, Distinct, NotDistinct}
 use Rattle.kleene.specs.declared.Joining.TheVariants.{And, Or}
@@ -25,28 +25,16 @@ use Rattle.promising.specs.Promises.{bare, is_value, any_value, if_some, of_set,
 use Rattle.promising.specs.declared.Promise.{Promise}
 use Rattle.promising.specs.declared.Promise.TheVariants.{Nothing, Keeps, Both}
 
--- a flipped column
-pub set_flipped : (c : Column) (b : Bool) (n : ℕ) (some : Bool) → (n ≡ 0 → ⊥) → of_set c b n some ≡ Nothing
-set_flipped c b zero some h = absurd (h refl)
-set_flipped c b (suc n) some h = refl
+-- ---- the literals of a list, from a place on
 
--- ---- the literals of a list, one after the other
+-- the i-th is not null
+abbrev pub is_some_at : List ℕ → ℕ → ℕ → Bool
+is_some_at ws at i = not (eqb (type_of (get_or ws (at + i) 0)) null_type)
 
-module _ (ws : List ℕ) (at n i : ℕ) (h : i < n) where
-  left : n - i ≡ suc (n - (i + 1))
-  left = omega arith
-
-  pub any_here : (type_of (get_or ws (at + 1 + i) 0) ≡ null_type → ⊥) → any_value ws (n - i) (at + 1 + i) ≡ true
-  unfolding any_value
-  any_here k = rw (left, ne_eqb _ _ k)
-
-  pub any_next : type_of (get_or ws (at + 1 + i) 0) ≡ null_type → any_value ws (n - i) (at + 1 + i) ≡ any_value ws (n - (i + 1)) (at + 1 + (i + 1))
-  unfolding any_value
-  any_next k = let e : at + 1 + i + 1 ≡ at + 1 + (i + 1) = omega arith in rw (left, eq-eqb _ _ k, e)
-
-pub any_none : (ws : List ℕ) (at n i : ℕ) → n ≤ i → any_value ws (n - i) (at + 1 + i) ≡ false
+pub any_of_list : (ws : List ℕ) (at n i : ℕ) → list_any (is_some_at ws at) (range_with_len i n) ≡ any_value ws n (at + i)
 unfolding any_value
-any_none ws at n i h = let e : n - i ≡ 0 = omega arith in rw e
+any_of_list ws at zero i = refl
+any_of_list ws at (suc n) i = let e : at + i + 1 ≡ at + (i + 1) = omega arith in rw (any_of_list ws at n (i + 1), e)
 
 -- ---- a literal word that is not null is one with a value
 
