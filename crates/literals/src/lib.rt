@@ -65,28 +65,28 @@ pub fn compare_ints(a: i64, b: i64) -> Ordering
 pub fn type_of(w: u64) -> u8
     ensures { result ≡ type_of w }
 {
-    (w / 4611686018427387904 % 4) as u8
+    words::field::<62, 2>(w) as u8
 }
 
 // A literal word's length.
 pub fn length_of(w: u64) -> usize
     ensures { result ≡ length_of w }
 {
-    (w / 281474976710656 % 16384) as usize
+    words::field::<48, 14>(w) as usize
 }
 
 // A literal word's zero field.
 pub fn zero_of(w: u64) -> u64
     ensures { result ≡ zero_of w }
 {
-    w / 16777216 % 16777216
+    words::field::<24, 24>(w)
 }
 
 // A literal word's offset.
 pub fn offset_of(w: u64) -> usize
     ensures { result ≡ offset_of w }
 {
-    (w % 16777216) as usize
+    words::field::<0, 24>(w) as usize
 }
 
 // Whether a literal word has no unnamed field set, and a null none at all.

@@ -133,49 +133,49 @@ impl Progress {
 pub fn kind_of(w: u64) -> u8
     ensures { result ≡ kind_of w }
 {
-    (w / 1152921504606846976 % 16) as u8
+    words::field::<60, 4>(w) as u8
 }
 
 // A node word's operator code.
 pub fn operator_of(w: u64) -> u8
     ensures { result ≡ operator_field w }
 {
-    (w / 72057594037927936 % 16) as u8
+    words::field::<56, 4>(w) as u8
 }
 
 // A node word's column.
 pub fn column_of(w: u64) -> Column
     ensures { result ≡ column_of w }
 {
-    Column((w / 281474976710656 % 256) as u8)
+    Column(words::field::<48, 8>(w) as u8)
 }
 
 // A node word's flips.
 pub fn flips_of(w: u64) -> u8
     ensures { result ≡ flips_of w }
 {
-    (w / 1099511627776 % 256) as u8
+    words::field::<40, 8>(w) as u8
 }
 
 // A node word's literal-first bit.
 pub fn first_of(w: u64) -> u8
     ensures { result ≡ first_field w }
 {
-    (w / 549755813888 % 2) as u8
+    words::field::<39, 1>(w) as u8
 }
 
 // A node word's count.
 pub fn count_of(w: u64) -> u16
     ensures { result ≡ count_of w }
 {
-    (w / 16777216 % 32768) as u16
+    words::field::<24, 15>(w) as u16
 }
 
 // A node word's zero field.
 pub fn zero_of(w: u64) -> u64
     ensures { result ≡ zero_field w }
 {
-    w % 16777216
+    words::field::<0, 24>(w)
 }
 
 // The truth value of a constant's operator code; an unknown one reads as null.

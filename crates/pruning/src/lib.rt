@@ -33,35 +33,35 @@ pub enum TableNode {
 pub fn kind_of(w: u64) -> u8
     ensures { result ≡ kind_of w }
 {
-    (w / 1152921504606846976 % 16) as u8
+    words::field::<60, 4>(w) as u8
 }
 
 // A table word's operator.
 pub fn operator_of(w: u64) -> u8
     ensures { result ≡ operator_field w }
 {
-    (w / 72057594037927936 % 16) as u8
+    words::field::<56, 4>(w) as u8
 }
 
 // A table word's first statistic.
 pub fn first_of(w: u64) -> u8
     ensures { result ≡ first_field w }
 {
-    (w / 281474976710656 % 256) as u8
+    words::field::<48, 8>(w) as u8
 }
 
 // A table word's second statistic.
 pub fn second_of(w: u64) -> u8
     ensures { result ≡ second_field w }
 {
-    (w / 1099511627776 % 256) as u8
+    words::field::<40, 8>(w) as u8
 }
 
 // A table word's literal-first field.
 pub fn literal_first_of(w: u64) -> u8
     ensures { result ≡ literal_first_field w }
 {
-    (w / 549755813888 % 2) as u8
+    words::field::<39, 1>(w) as u8
 }
 
 // The operator of a code; an unknown code reads as =.
@@ -210,7 +210,7 @@ fn guarantee_fine(schema: &[u8], w: u64) -> bool
     if w % 549755813888 != 0 {
         return false;
     }
-    ((w / 72057594037927936 % 256) as usize) < schema.len()
+    (words::field::<56, 8>(w) as usize) < schema.len()
 }
 
 // Every guarantee's word is fine.

@@ -1,7 +1,7 @@
 // Words of 64 bits in byte slices, ranges of a pool, and the order of byte strings.
 #![tactic(auto)]
 
-ghost use Rattle.std.specs.Prelude.{◌≡◌, ◌+◌, ◌*◌, ◌≤◌, ◌<◌, length, get_or, take, drop};
+ghost use Rattle.std.specs.Prelude.{◌≡◌, ◌+◌, ◌*◌, ◌/◌, ◌%◌, ◌^◌, ◌≤◌, ◌<◌, length, get_or, take, drop};
 ghost use Rattle.std.proofs.lemmas.List.Edits.{sets};
 ghost use Rattle.words.specs.Word.{of_bytes, word_at, word_bytes, words_of, range_of};
 ghost use Rattle.words.specs.Pools.{Cut, Inside, operand_of, OperandInside};
@@ -28,6 +28,14 @@ pub enum Operand {
 pub struct Walked<T> {
     pub value: T,
     pub next: usize,
+}
+
+// The field of a word that has BITS bits and ends SHIFT bits above the lowest.
+pub fn field<const SHIFT: u32, const BITS: u32>(w: u64) -> u64
+    requires { (SHIFT < 64) × (BITS < 64) }
+    ensures { result ≡ w / 2 ^ SHIFT % 2 ^ BITS }
+{
+    (w >> SHIFT) % (1 << BITS)
 }
 
 // The word whose bytes begin at index at.
