@@ -1,6 +1,6 @@
 -- Induction over rewriting: what the table and the statistics of every leaf have, and a join keeps, those of every predicate have.
 -- Assumes nothing.
-use Rattle.std.specs.Prelude.{◌≡◌, refl, Bool, cond, not as negation, ◌||◌, length, eqb, leb, ltb, ℤ}
+use Rattle.std.specs.Prelude.{◌≡◌, refl, Bool, cond, not as negation, ◌||◌, length, eqb, leb, ltb, ℤ, Option, Some, None}
 use Rattle.std.proofs.Math.Bool.{true, false}
 use mathlib.Core.List.{List, [], ◌∷◌, ◌++◌, append_assoc, append-nil}
 use Prim.Native.Nat.{ℕ, zero, suc}
@@ -11,8 +11,6 @@ use Rattle.kleene.specs.declared.Truth.{Truth}
 use Rattle.kleene.specs.declared.Truth.TheVariants.{False, Unknown, True}
 use Rattle.literals.specs.Signed.{negated}
 use Rattle.literals.specs.Literals.{Value, null, int, text, truth, integer_type, truth_type}
-use Rattle.literals.specs.declared.Negated.{Negated}
-use Rattle.literals.specs.declared.Negated.TheVariants.{To, Unhandled}
 use Rattle.predicate.specs.declared.Column.{Column}
 use Rattle.predicate.specs.Predicates.{Predicate, constant, join, not, column, is_null, is_not_null, comparison, list, like}
 use Rattle.statistics.specs.declared.Statistic.{Statistic}
@@ -22,14 +20,14 @@ use Rattle.table.specs.Rewriting.{constant_table, not_table, not_lists, list_ope
 use Rattle.table.specs.Induction.{Asked, Kept}
 
 -- what negation keeps of a literal, turning keeps
-module _ (Q : Value → Type 0) (minus_kept : (z y : ℤ) → negated z ≡ To y → Q (int z) → Q (int y)) (not_kept : (b : Bool) → Q (truth b) → Q (truth (negation b))) where
+module _ (Q : Value → Type 0) (minus_kept : (z y : ℤ) → negated z ≡ Some y → Q (int z) → Q (int y)) (not_kept : (b : Bool) → Q (truth b) → Q (truth (negation b))) where
   minus_by : (f : Operator → Value → Turned) → ((o : Operator) (v : Value) → Q v → Asked Q (f o v)) → (o : Operator) (v : Value) → Q v → Asked Q (minus f o v)
   minus_by f next o null q = next (swap_of o) null q
   minus_by f next o (int z) q = go (negated z) refl
     where
-      go : (r : Negated) → negated z ≡ r → Asked Q (minus_int f o r)
-      go (To y) e = next (swap_of o) (int y) (minus_kept z y e q)
-      go Unhandled e = tt
+      go : (r : Option ℤ) → negated z ≡ r → Asked Q (minus_int f o r)
+      go (Some y) e = next (swap_of o) (int y) (minus_kept z y e q)
+      go None e = tt
   minus_by f next o (text bs) q = tt
   minus_by f next o (truth b) q = tt
 

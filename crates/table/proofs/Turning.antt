@@ -1,5 +1,5 @@
 -- A comparison whose literal was turned to the right and whose flips were taken off says the same of a row's value. Assumes nothing.
-use Rattle.std.specs.Prelude.{◌≡◌, refl, Bool, true, false, cond, not, ℕ, zero, suc, eqb}
+use Rattle.std.specs.Prelude.{◌≡◌, refl, Bool, true, false, cond, not, ℕ, zero, suc, eqb, ℤ, Option, Some, None}
 use Rattle.std.proofs.Common.{sym, ◌∙◌, ap, arith, eqb-true, lt-ltb}
 use Rattle.operators.specs.Operators.{swap_of}
 use Rattle.operators.specs.declared.Operator.{Operator}
@@ -9,8 +9,6 @@ use Rattle.kleene.specs.Truths.{truth_of}
 use Rattle.kleene.specs.TruthLaws.{unknown_true}
 use Rattle.literals.specs.Signed.{negated, negated_is}
 use Rattle.literals.specs.Literals.{Value, null, int, text, truth, integer_type, truth_type}
-use Rattle.literals.specs.declared.Negated.{Negated}
-use Rattle.literals.specs.declared.Negated.TheVariants.{To, Unhandled}
 use Rattle.orders.specs.Values.{order_of, by_order, compared, compared_from}
 use Rattle.orders.specs.ValueLaws.{order_of_turned, minus_turned, not_turned}
 use Rattle.orders.proofs.ValueLaws.{by_compared}
@@ -64,7 +62,7 @@ same_asks : (o p : Operator) (k l v : Value) → asks o k ≡ asks p l → Holds
 same_asks o p k l v e h = let a : o ≡ p = cc in let b : k ≡ l = cc in rw (← a, ← b) h
 
 never_asks : {A : Type 0} (p : Operator) (l : Value) → stays ≡ asks p l → A
-never_asks p l e = let z : ◌≡◌ {A = ℕ} 0 1 = cc in absurd (omega arith)
+never_asks p l e = cc
 
 -- one minus less
 minus_means : (f : Operator → Value → Turned) (o p : Operator) (k l w v : Value) → Numeric w
@@ -78,9 +76,9 @@ minus_means f o p (text bs) l (int a) v n next e h = unknown_true h
 minus_means f o p (truth b) l (int a) v n next e h = unknown_true h
 minus_means f o p (int z) l (int a) v n next e h = go (negated z) refl e
   where
-    go : (r : Negated) → negated z ≡ r → minus_int f o r ≡ asks p l → Holds p v l
-    go (To y) q e = next (swap_of o) (int y) e (rw (negated_is z y q) (ap truth_of (sym (minus_turned o a z)) ∙ h))
-    go Unhandled q e = never_asks p l e
+    go : (r : Option ℤ) → negated z ≡ r → minus_int f o r ≡ asks p l → Holds p v l
+    go (Some y) q e = next (swap_of o) (int y) e (rw (negated_is z y q) (ap truth_of (sym (minus_turned o a z)) ∙ h))
+    go None q e = never_asks p l e
 
 minuses_means : (n : ℕ) (o p : Operator) (k l v : Value) → Numeric v → minuses n o k ≡ asks p l → Holds o (flips n v) k → Holds p v l
 unfolding minuses

@@ -1,6 +1,6 @@
 -- Comparison forms: the literal turned to the right and its flips taken off, then each operator's form and the statistics that it lists.
 -- Assumes nothing.
-use Rattle.std.specs.Prelude.{Bool, true, false, cond, not, ◌||◌, List, [], ◌∷◌, ℕ, zero, suc, eqb, ltb}
+use Rattle.std.specs.Prelude.{Bool, true, false, cond, not, ◌||◌, List, [], ◌∷◌, ℕ, zero, suc, eqb, ltb, ℤ, Option as Handled, Some, None}
 use Rattle.std.proofs.Math.Option.{Option, some, none}
 use Rattle.operators.specs.Operators.{swap_of}
 use Rattle.operators.specs.declared.Operator.{Operator}
@@ -8,8 +8,6 @@ use Rattle.operators.specs.declared.Operator.TheVariants.{Equal, NotEqual, Below
 use Rattle.kleene.specs.declared.Joining.TheVariants.{And, Or}
 use Rattle.literals.specs.Signed.{negated}
 use Rattle.literals.specs.Literals.{Value, null, int, text, truth, integer_type, truth_type}
-use Rattle.literals.specs.declared.Negated.{Negated}
-use Rattle.literals.specs.declared.Negated.TheVariants.{To, Unhandled}
 use Rattle.text.specs.Pattern.{prefix_of}
 use Rattle.text.specs.Upper.{upper_of}
 use Rattle.predicate.specs.declared.Column.{Column}
@@ -25,9 +23,9 @@ pub data Turned : Type 0 where
   stays : Turned
 
 -- one minus: the literal negated, the operator swapped
-abbrev pub minus_int : (Operator → Value → Turned) → Operator → Negated → Turned
-minus_int f o (To z) = f (swap_of o) (int z)
-minus_int f o Unhandled = stays
+abbrev pub minus_int : (Operator → Value → Turned) → Operator → Handled ℤ → Turned
+minus_int f o (Some z) = f (swap_of o) (int z)
+minus_int f o None = stays
 
 abbrev pub minus : (Operator → Value → Turned) → Operator → Value → Turned
 minus f o null = f (swap_of o) null

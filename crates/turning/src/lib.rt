@@ -5,7 +5,7 @@ ghost use Rattle.std.specs.Prelude.{◌≡◌};
 ghost use Rattle.table.specs.Comparisons.{asks, minus, minuses, flip_once, truth_flips, no_flips, flipped, unturned, turned};
 ghost use Rattle.turning.specs.Turns.{Turns, Negates};
 
-use literals::{Literal, Negated};
+use literals::Literal;
 use operators::Operator;
 
 // An operator against a literal on its right.
@@ -21,10 +21,7 @@ fn take_minus(a: Against) -> Option<Against>
 {
     let literal = match a.literal {
         Literal::Null => Literal::Null,
-        Literal::Int(x) => match literals::negate(x) {
-            Negated::To(y) => Literal::Int(y),
-            Negated::Unhandled => return None,
-        },
+        Literal::Int(x) => Literal::Int(literals::negate(x)?),
         Literal::Text(_) | Literal::Truth(_) => return None,
     };
     Some(Against {
@@ -107,23 +104,27 @@ fn keep(flips: u8, first: bool, a: Against) -> Option<Against>
 pub fn turn(kind: u8, o: Operator, flips: u8, first: bool, l: Literal) -> Option<Against>
     ensures { Turns (turned kind o flips first) l result }
 {
-    if matches!(o, Operator::Distinct | Operator::NotDistinct) {
-        return keep(
-            flips,
-            first,
-            Against {
-                operator: o,
-                literal: l,
-            },
-        );
+    match o {
+        Operator::Distinct | Operator::NotDistinct => {
+            keep(
+                flips,
+                first,
+                Against {
+                    operator: o,
+                    literal: l,
+                },
+            )
+        }
+        _ => {
+            let operator = if first { o.swap() } else { o };
+            take_flips(
+                kind,
+                flips,
+                Against {
+                    operator,
+                    literal: l,
+                },
+            )
+        }
     }
-    let operator = if first { o.swap() } else { o };
-    take_flips(
-        kind,
-        flips,
-        Against {
-            operator,
-            literal: l,
-        },
-    )
 }
