@@ -204,6 +204,7 @@ fn is_negated(w: u64) -> bool
 }
 
 // The node of a word w and the word l behind it, whatever they are.
+#[tactic(auto, using(crate::specs::KindLaws::node_kinds))]
 pub fn node_of(pool: &[u8], w: u64, l: u64) -> Node
     ensures { result ≡ node_of pool.now w l }
 {
