@@ -7,10 +7,12 @@
 
 ghost use Rattle.std.specs.Prelude.{◌≤◌, ◌<◌, length, IfSome};
 
+use predicate::Rooms;
 use std::fs::File;
 use std::io;
 use std::io::Read;
 use std::rt::Files;
+use walking::Request;
 
 // Bytes at the front of a room of N.
 #[derive(Drop)]
@@ -145,16 +147,22 @@ fn replay_line(line: &[u8]) -> Option<bool> {
     if answer.len < 8 {
         return None;
     }
-    let fault = checking::rewrite_fault(
-        schema.bytes(),
-        predicate.bytes(),
-        pool.bytes(),
-        n[0],
-        n[1],
-        n[2],
-        n[3],
-        n[4],
-    );
+    let request = Request {
+        schema: schema.bytes(),
+        pool: pool.bytes(),
+        words: predicate.bytes(),
+        limit: n[0],
+    };
+    let rooms = Rooms {
+        table: n[1],
+        pool: n[2],
+        statistics: n[3],
+        guarantees: n[4],
+    };
+    let fault = match checking::rewrite_fault(&request, rooms) {
+        Ok(()) => 0,
+        Err(refusal) => u8::from(refusal),
+    };
     Some(answer.room == [fault, 0, 0, 0, 0, 0, 0, 0])
 }
 
