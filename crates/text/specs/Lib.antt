@@ -3,6 +3,7 @@ pub mod Increment
 pub mod Chars
 pub mod Machine
 pub mod Pattern
+pub mod Plain
 pub mod Wrote
 pub mod Match
 pub mod Upper

@@ -1,6 +1,11 @@
 -- UTF-8, byte by byte: how many continuation bytes are still to come, and the bounds of the next one. Assumes nothing.
 use Rattle.std.specs.Prelude.{List, [], ◌∷◌, Bool, cond, ℕ, ◌-◌, ltb, eqb}
-use Rattle.text.specs.declared.State.{State}
+
+-- how many continuation bytes are still to come, and between which bounds the next one lies
+pub record State : Type 0 where
+  pub need : ℕ
+  pub lo : ℕ
+  pub hi : ℕ
 
 abbrev pub st : ℕ → ℕ → ℕ → State
 st n l h = record { need = n; lo = l; hi = h }

@@ -1,13 +1,10 @@
--- The prefix is n bytes longer than that of what is left of the pattern from i on. Assumes nothing.
-use mathlib.Core.Path.{◌≡◌}
-use mathlib.Core.Bool.{false}
-use Prim.Native.Nat.{◌+◌, ◌≤◌, ◌-◌}
-use lib.ListN.{length, drop}
-use Rattle.text.specs.Pattern.{prefix_of, last}
+-- The prefix is n bytes longer than that of what is left of the pattern. Assumes nothing.
+use Rattle.std.proofs.Common.{◌≡◌, ◌≤◌, ◌+◌, false, length}
+use Rattle.text.specs.Pattern.{prefix_of}
 use Rattle.text.proofs.prefix_len.Given as goal
 
-abbrev pub invariant-loop-i : goal.invariant-loop-i
-invariant-loop-i l = (l.i ≤ length l.pattern) × (l.n + length (last l.escaped) ≤ l.i) × (length (prefix_of false l.pattern) ≡ l.n + length (prefix_of l.escaped (drop l.i l.pattern)))
+abbrev pub invariant-loop-behind : goal.invariant-loop-behind
+invariant-loop-behind l = (l.n + length l.rest ≤ length l.pattern) × (length (prefix_of false l.pattern) ≡ l.n + length (prefix_of false l.rest))
 
-abbrev pub decreases-loop-i : goal.decreases-loop-i
-decreases-loop-i l = length l.pattern - l.i
+abbrev pub decreases-loop-behind : goal.decreases-loop-behind
+decreases-loop-behind l = length l.rest
