@@ -1,262 +1,124 @@
-// The forms of comparisons and of LIKE, written into a lent table and a lent literal pool.
+// The forms of comparisons, written into a lent table and a lent literal pool.
 #![tactic(auto)]
 
-ghost use Rattle.std.specs.Prelude.{◌≡◌, true, false};
-ghost use Rattle.kleene.specs.declared.Joining.TheVariants.{Or};
 ghost use Rattle.literals.specs.Literals.{value_of, LiteralFits};
-ghost use Rattle.statistics.specs.declared.Statistic.TheVariants.{Least, Greatest};
-ghost use Rattle.table.specs.Tables.{both, against};
-ghost use Rattle.table.specs.Comparisons.{equal_form, unequal_form, has_blanks, wrapped, distinct_form, not_distinct_form, comparison_form, turned_form};
-ghost use Rattle.listing.specs.Listing.{list_of, Few};
+ghost use Rattle.table.specs.Comparisons.{equal_form, unequal_form, wrapped, distinct_form, not_distinct_form, comparison_form, turned_form};
+ghost use Rattle.listing.specs.Listing.{Few};
 ghost use Rattle.turning.specs.Turns.{turned_of, TurnedFits};
-ghost use Rattle.writing.specs.Writing.{Room, Wrote};
-ghost use Rattle.forms.specs.Forms.{is_null};
+ghost use Rattle.writing.specs.Writing.{RoomFor, WroteBy};
+ghost use Rattle.forms.specs.Forms.{bounds_form, bare_form};
 
 use kleene::Joining;
 use literals::Literal;
 use operators::Operator;
 use predicate::Column;
 use statistics::Statistic;
-use turning::Turned;
-use writing::Spot;
-
-// Whether a literal is null.
-fn is_null(l: Literal) -> bool
-    ensures { result ≡ is_null l }
-{
-    match l {
-        Literal::Null => true,
-        Literal::Int(_) => false,
-        Literal::Text(_) => false,
-        Literal::Truth(_) => false,
-    }
-}
+use turning::Against;
+use writing::Writer;
 
 // Writes least against a literal and the literal against greatest, joined.
-fn write_bounds(
-    list: &[u8],
-    input: &[u8],
-    j: Joining,
-    o: Operator,
-    c: Column,
-    l: Literal,
-    table: &mut [u8],
-    pool: &mut [u8],
-    s: Spot,
-) -> Spot
-    requires { Few list.now × LiteralFits l × Room (both j (against o (Least c) false (value_of input.now l)) (against o (Greatest c) true (value_of input.now l))) s table.old pool.old }
-    ensures { Wrote (both j (against o (Least c) false (value_of input.now l)) (against o (Greatest c) true (value_of input.now l))) (list_of list.now) s table.old table.new pool.old pool.new result }
+fn write_bounds(w: &mut Writer<'_>, input: &[u8], j: Joining, o: Operator, c: Column, l: Literal)
+    requires { Few w.old.list.now × LiteralFits l × RoomFor (bounds_form j o c (value_of input.now l)) w.old }
+    ensures { WroteBy (bounds_form j o c (value_of input.now l)) w.old w.new }
 {
-    let least = Statistic::Least(c);
-    let greatest = Statistic::Greatest(c);
-    let a = writing::put_join(table, s, j);
-    let b = writing::write_against(list, input, o, least, false, l, table, pool, a);
-    writing::write_against(list, input, o, greatest, true, l, table, pool, b)
+    w.put_join(j);
+    w.write_against(input, o, Statistic::Least(c), false, l);
+    w.write_against(input, o, Statistic::Greatest(c), true, l);
 }
 
-// Writes least ≤ literal AND literal ≤ greatest: build_eq_statistics_expr.
-pub fn build_eq_statistics_expr(
-    list: &[u8],
-    input: &[u8],
-    c: Column,
-    l: Literal,
-    table: &mut [u8],
-    pool: &mut [u8],
-    s: Spot,
-) -> Spot
-    requires { Few list.now × LiteralFits l × Room (equal_form c (value_of input.now l)) s table.old pool.old }
-    ensures { Wrote (equal_form c (value_of input.now l)) (list_of list.now) s table.old table.new pool.old pool.new result }
+// Writes least ≤ literal AND literal ≤ greatest.
+pub fn build_eq_statistics_expr(w: &mut Writer<'_>, input: &[u8], c: Column, l: Literal)
+    requires { Few w.old.list.now × LiteralFits l × RoomFor (equal_form c (value_of input.now l)) w.old }
+    ensures { WroteBy (equal_form c (value_of input.now l)) w.old w.new }
 {
-    let o = Operator::AtMost;
-    write_bounds(list, input, Joining::And, o, c, l, table, pool, s)
+    write_bounds(w, input, Joining::And, Operator::AtMost, c, l);
 }
 
-// Writes least ≠ literal OR literal ≠ greatest: build_ne_statistics_expr.
-pub fn build_ne_statistics_expr(
-    list: &[u8],
-    input: &[u8],
-    c: Column,
-    l: Literal,
-    table: &mut [u8],
-    pool: &mut [u8],
-    s: Spot,
-) -> Spot
-    requires { Few list.now × LiteralFits l × Room (unequal_form c (value_of input.now l)) s table.old pool.old }
-    ensures { Wrote (unequal_form c (value_of input.now l)) (list_of list.now) s table.old table.new pool.old pool.new result }
+// Writes least ≠ literal OR literal ≠ greatest.
+pub fn build_ne_statistics_expr(w: &mut Writer<'_>, input: &[u8], c: Column, l: Literal)
+    requires { Few w.old.list.now × LiteralFits l × RoomFor (unequal_form c (value_of input.now l)) w.old }
+    ensures { WroteBy (unequal_form c (value_of input.now l)) w.old w.new }
 {
-    let o = Operator::NotEqual;
-    write_bounds(list, input, Joining::Or, o, c, l, table, pool, s)
+    write_bounds(w, input, Joining::Or, Operator::NotEqual, c, l);
 }
 
-// Writes the form of =.
-fn write_equal(
-    list: &[u8],
-    input: &[u8],
-    c: Column,
-    l: Literal,
-    table: &mut [u8],
-    pool: &mut [u8],
-    s: Spot,
-) -> Spot
-    requires { Few list.now × LiteralFits l × Room (wrapped c (equal_form c (value_of input.now l))) s table.old pool.old }
-    ensures { Wrote (wrapped c (equal_form c (value_of input.now l))) (list_of list.now) s table.old table.new pool.old pool.new result }
+// Writes what an operator asks of least and greatest.
+fn write_bare(w: &mut Writer<'_>, input: &[u8], c: Column, o: Operator, l: Literal)
+    requires { Few w.old.list.now × LiteralFits l × RoomFor (bare_form c o (value_of input.now l)) w.old }
+    ensures { WroteBy (bare_form c o (value_of input.now l)) w.old w.new }
 {
-    let a = writing::wrap_null_count_check_expr(list, c, table, s);
-    build_eq_statistics_expr(list, input, c, l, table, pool, a)
-}
-
-// Writes the form of ≠.
-fn write_unequal(
-    list: &[u8],
-    input: &[u8],
-    c: Column,
-    l: Literal,
-    table: &mut [u8],
-    pool: &mut [u8],
-    s: Spot,
-) -> Spot
-    requires { Few list.now × LiteralFits l × Room (wrapped c (unequal_form c (value_of input.now l))) s table.old pool.old }
-    ensures { Wrote (wrapped c (unequal_form c (value_of input.now l))) (list_of list.now) s table.old table.new pool.old pool.new result }
-{
-    let a = writing::wrap_null_count_check_expr(list, c, table, s);
-    build_ne_statistics_expr(list, input, c, l, table, pool, a)
-}
-
-// Writes the form of an operator that reads least.
-fn write_least(
-    list: &[u8],
-    input: &[u8],
-    o: Operator,
-    c: Column,
-    l: Literal,
-    table: &mut [u8],
-    pool: &mut [u8],
-    s: Spot,
-) -> Spot
-    requires { Few list.now × LiteralFits l × Room (wrapped c (against o (Least c) false (value_of input.now l))) s table.old pool.old }
-    ensures { Wrote (wrapped c (against o (Least c) false (value_of input.now l))) (list_of list.now) s table.old table.new pool.old pool.new result }
-{
-    let a = writing::wrap_null_count_check_expr(list, c, table, s);
-    let least = Statistic::Least(c);
-    writing::write_against(list, input, o, least, false, l, table, pool, a)
-}
-
-// Writes the form of an operator that reads greatest.
-fn write_greatest(
-    list: &[u8],
-    input: &[u8],
-    o: Operator,
-    c: Column,
-    l: Literal,
-    table: &mut [u8],
-    pool: &mut [u8],
-    s: Spot,
-) -> Spot
-    requires { Few list.now × LiteralFits l × Room (wrapped c (against o (Greatest c) false (value_of input.now l))) s table.old pool.old }
-    ensures { Wrote (wrapped c (against o (Greatest c) false (value_of input.now l))) (list_of list.now) s table.old table.new pool.old pool.new result }
-{
-    let a = writing::wrap_null_count_check_expr(list, c, table, s);
-    let greatest = Statistic::Greatest(c);
-    writing::write_against(list, input, o, greatest, false, l, table, pool, a)
-}
-
-// Writes blanks > 0 OR the ≠ form, unwrapped.
-fn write_blanks_or_unequal(
-    list: &[u8],
-    input: &[u8],
-    c: Column,
-    l: Literal,
-    table: &mut [u8],
-    pool: &mut [u8],
-    s: Spot,
-) -> Spot
-    requires { Few list.now × LiteralFits l × Room (both Or (has_blanks c) (unequal_form c (value_of input.now l))) s table.old pool.old }
-    ensures { Wrote (both Or (has_blanks c) (unequal_form c (value_of input.now l))) (list_of list.now) s table.old table.new pool.old pool.new result }
-{
-    let a = writing::put_join(table, s, Joining::Or);
-    let b = writing::column_has_nulls_expr(list, c, table, a);
-    build_ne_statistics_expr(list, input, c, l, table, pool, b)
-}
-
-// Writes the form of distinct from: build_is_distinct_from.
-pub fn build_is_distinct_from(
-    list: &[u8],
-    input: &[u8],
-    c: Column,
-    l: Literal,
-    table: &mut [u8],
-    pool: &mut [u8],
-    s: Spot,
-) -> Spot
-    requires { Few list.now × LiteralFits l × Room (distinct_form c (value_of input.now l)) s table.old pool.old }
-    ensures { Wrote (distinct_form c (value_of input.now l)) (list_of list.now) s table.old table.new pool.old pool.new result }
-{
-    if is_null(l) {
-        return writing::column_has_non_nulls_expr(list, c, table, s);
+    match o {
+        Operator::Equal | Operator::NotDistinct => build_eq_statistics_expr(w, input, c, l),
+        Operator::NotEqual | Operator::Distinct => build_ne_statistics_expr(w, input, c, l),
+        Operator::Below | Operator::AtMost => w.write_against(
+            input,
+            o,
+            Statistic::Least(c),
+            false,
+            l,
+        ),
+        Operator::Above | Operator::AtLeast => w.write_against(
+            input,
+            o,
+            Statistic::Greatest(c),
+            false,
+            l,
+        ),
     }
-    write_blanks_or_unequal(list, input, c, l, table, pool, s)
 }
 
-// Writes the form of not distinct from: build_is_not_distinct_from.
-pub fn build_is_not_distinct_from(
-    list: &[u8],
-    input: &[u8],
-    c: Column,
-    l: Literal,
-    table: &mut [u8],
-    pool: &mut [u8],
-    s: Spot,
-) -> Spot
-    requires { Few list.now × LiteralFits l × Room (not_distinct_form c (value_of input.now l)) s table.old pool.old }
-    ensures { Wrote (not_distinct_form c (value_of input.now l)) (list_of list.now) s table.old table.new pool.old pool.new result }
+// Writes the same, wrapped in the blanks test.
+fn write_wrapped(w: &mut Writer<'_>, input: &[u8], c: Column, o: Operator, l: Literal)
+    requires { Few w.old.list.now × LiteralFits l × RoomFor (wrapped c (bare_form c o (value_of input.now l))) w.old }
+    ensures { WroteBy (wrapped c (bare_form c o (value_of input.now l))) w.old w.new }
 {
-    if is_null(l) {
-        return writing::column_has_nulls_expr(list, c, table, s);
+    w.wrap_null_count_check_expr(c);
+    write_bare(w, input, c, o, l);
+}
+
+// Writes the form of distinct from.
+pub fn build_is_distinct_from(w: &mut Writer<'_>, input: &[u8], c: Column, l: Literal)
+    requires { Few w.old.list.now × LiteralFits l × RoomFor (distinct_form c (value_of input.now l)) w.old }
+    ensures { WroteBy (distinct_form c (value_of input.now l)) w.old w.new }
+{
+    if matches!(l, Literal::Null) {
+        return w.column_has_non_nulls_expr(c);
     }
-    write_equal(list, input, c, l, table, pool, s)
+    w.put_join(Joining::Or);
+    w.column_has_nulls_expr(c);
+    build_ne_statistics_expr(w, input, c, l);
+}
+
+// Writes the form of not distinct from.
+pub fn build_is_not_distinct_from(w: &mut Writer<'_>, input: &[u8], c: Column, l: Literal)
+    requires { Few w.old.list.now × LiteralFits l × RoomFor (not_distinct_form c (value_of input.now l)) w.old }
+    ensures { WroteBy (not_distinct_form c (value_of input.now l)) w.old w.new }
+{
+    if matches!(l, Literal::Null) {
+        return w.column_has_nulls_expr(c);
+    }
+    write_wrapped(w, input, c, Operator::NotDistinct, l);
 }
 
 // Writes a comparison's form: build_statistics_expr.
-pub fn write_comparison(
-    list: &[u8],
-    input: &[u8],
-    c: Column,
-    o: Operator,
-    l: Literal,
-    table: &mut [u8],
-    pool: &mut [u8],
-    s: Spot,
-) -> Spot
-    requires { Few list.now × LiteralFits l × Room (comparison_form c o (value_of input.now l)) s table.old pool.old }
-    ensures { Wrote (comparison_form c o (value_of input.now l)) (list_of list.now) s table.old table.new pool.old pool.new result }
+pub fn write_comparison(w: &mut Writer<'_>, input: &[u8], c: Column, o: Operator, l: Literal)
+    requires { Few w.old.list.now × LiteralFits l × RoomFor (comparison_form c o (value_of input.now l)) w.old }
+    ensures { WroteBy (comparison_form c o (value_of input.now l)) w.old w.new }
 {
     match o {
-        Operator::Equal => write_equal(list, input, c, l, table, pool, s),
-        Operator::NotEqual => write_unequal(list, input, c, l, table, pool, s),
-        Operator::Below => write_least(list, input, Operator::Below, c, l, table, pool, s),
-        Operator::AtMost => write_least(list, input, Operator::AtMost, c, l, table, pool, s),
-        Operator::Above => write_greatest(list, input, Operator::Above, c, l, table, pool, s),
-        Operator::AtLeast => write_greatest(list, input, Operator::AtLeast, c, l, table, pool, s),
-        Operator::Distinct => build_is_distinct_from(list, input, c, l, table, pool, s),
-        Operator::NotDistinct => build_is_not_distinct_from(list, input, c, l, table, pool, s),
+        Operator::Distinct => build_is_distinct_from(w, input, c, l),
+        Operator::NotDistinct => build_is_not_distinct_from(w, input, c, l),
+        _ => write_wrapped(w, input, c, o, l),
     }
 }
 
 // Writes a turned comparison's form, and true where it is unhandled.
-pub fn write_turned(
-    list: &[u8],
-    input: &[u8],
-    c: Column,
-    t: Turned,
-    table: &mut [u8],
-    pool: &mut [u8],
-    s: Spot,
-) -> Spot
-    requires { Few list.now × TurnedFits t × Room (turned_form c (turned_of input.now t)) s table.old pool.old }
-    ensures { Wrote (turned_form c (turned_of input.now t)) (list_of list.now) s table.old table.new pool.old pool.new result }
+pub fn write_turned(w: &mut Writer<'_>, input: &[u8], c: Column, t: Option<Against>)
+    requires { Few w.old.list.now × TurnedFits t × RoomFor (turned_form c (turned_of input.now t)) w.old }
+    ensures { WroteBy (turned_form c (turned_of input.now t)) w.old w.new }
 {
     match t {
-        Turned::Against(o, l) => write_comparison(list, input, c, o, l, table, pool, s),
-        Turned::Unhandled => writing::write_always(true, table, s),
+        Some(a) => write_comparison(w, input, c, a.operator, a.literal),
+        None => w.write_always(true),
     }
 }

@@ -4,8 +4,8 @@
 ghost use Rattle.std.specs.Prelude.{◌≡◌, ◌^◌, ◌<◌, length};
 ghost use Rattle.literals.specs.declared.Literal.TheVariants.{Text};
 ghost use Rattle.table.specs.Comparisons.{wrapped, like_form};
-ghost use Rattle.listing.specs.Listing.{list_of, Few};
-ghost use Rattle.writing.specs.Writing.{Room, Wrote};
+ghost use Rattle.listing.specs.Listing.{Few};
+ghost use Rattle.writing.specs.Writing.{RoomFor, WroteBy};
 
 use kleene::Joining;
 use literals::Literal;
@@ -13,7 +13,7 @@ use operators::Operator;
 use predicate::Column;
 use statistics::Statistic;
 use words::Range;
-use writing::Spot;
+use writing::Writer;
 
 // A text as a literal over itself.
 fn whole(text: &[u8]) -> Literal
@@ -24,41 +24,32 @@ fn whole(text: &[u8]) -> Literal
 }
 
 // Writes least ≤ upper AND prefix ≤ greatest: build_like_match.
-fn build_like_match(
-    list: &[u8],
-    c: Column,
-    prefix: &[u8],
-    upper: &[u8],
-    table: &mut [u8],
-    pool: &mut [u8],
-    s: Spot,
-) -> Spot
-    requires { Few list.now × (length prefix.now < 2 ^ 14) × (length upper.now < 2 ^ 14) × Room (like_form c prefix.now upper.now) s table.old pool.old }
-    ensures { Wrote (like_form c prefix.now upper.now) (list_of list.now) s table.old table.new pool.old pool.new result }
+fn build_like_match(w: &mut Writer<'_>, c: Column, prefix: &[u8], upper: &[u8])
+    requires { Few w.old.list.now × (length prefix.now < 2 ^ 14) × (length upper.now < 2 ^ 14) × RoomFor (like_form c prefix.now upper.now) w.old }
+    ensures { WroteBy (like_form c prefix.now upper.now) w.old w.new }
 {
-    let o = Operator::AtMost;
-    let least = Statistic::Least(c);
-    let greatest = Statistic::Greatest(c);
-    let u = whole(upper);
-    let p = whole(prefix);
-    let a = writing::put_join(table, s, Joining::And);
-    let b = writing::write_against(list, upper, o, least, false, u, table, pool, a);
-    writing::write_against(list, prefix, o, greatest, true, p, table, pool, b)
+    w.put_join(Joining::And);
+    w.write_against(
+        upper,
+        Operator::AtMost,
+        Statistic::Least(c),
+        false,
+        whole(upper),
+    );
+    w.write_against(
+        prefix,
+        Operator::AtMost,
+        Statistic::Greatest(c),
+        true,
+        whole(prefix),
+    );
 }
 
 // Writes the form of LIKE with a prefix and an upper bound.
-pub fn write_like(
-    list: &[u8],
-    c: Column,
-    prefix: &[u8],
-    upper: &[u8],
-    table: &mut [u8],
-    pool: &mut [u8],
-    s: Spot,
-) -> Spot
-    requires { Few list.now × (length prefix.now < 2 ^ 14) × (length upper.now < 2 ^ 14) × Room (wrapped c (like_form c prefix.now upper.now)) s table.old pool.old }
-    ensures { Wrote (wrapped c (like_form c prefix.now upper.now)) (list_of list.now) s table.old table.new pool.old pool.new result }
+pub fn write_like(w: &mut Writer<'_>, c: Column, prefix: &[u8], upper: &[u8])
+    requires { Few w.old.list.now × (length prefix.now < 2 ^ 14) × (length upper.now < 2 ^ 14) × RoomFor (wrapped c (like_form c prefix.now upper.now)) w.old }
+    ensures { WroteBy (wrapped c (like_form c prefix.now upper.now)) w.old w.new }
 {
-    let a = writing::wrap_null_count_check_expr(list, c, table, s);
-    build_like_match(list, c, prefix, upper, table, pool, a)
+    w.wrap_null_count_check_expr(c);
+    build_like_match(w, c, prefix, upper);
 }
