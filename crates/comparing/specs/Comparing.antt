@@ -1,9 +1,10 @@
 -- Comparisons of values by the orders of their types, and operators that are asked of an order. Assumes nothing.
-use Rattle.std.specs.Prelude.{◌≡◌, refl, Bool, true, false, not, ◌&&◌, List, ℕ, ◌/◌, ◌^◌, eqb, leb, ltb, ℤ, pos}
+use Rattle.std.specs.Prelude.{◌≡◌, refl, Option as Maybe, None, Some, Bool, true, false, not, ◌&&◌, List, ℕ, ◌/◌, ◌^◌, eqb, leb, ltb, ℤ, pos}
 use Rattle.std.proofs.Common.{sym, ap, ◌∙◌, arith, leb-true, leb-false, eq-eqb, ne_eqb}
 use Rattle.std.proofs.Math.Option.{Option, some, none}
 use Rattle.words.specs.Word.{word_at}
 use Rattle.words.specs.Bytes.{byte_order}
+use Rattle.std.specs.Ordering.{bool_cmp}
 use Rattle.std.specs.declared.cmp.Ordering.{Ordering}
 use Rattle.operators.specs.Operators.{swap_of}
 use Rattle.operators.specs.declared.Operator.{Operator}
@@ -13,18 +14,16 @@ use Rattle.literals.specs.Signed.{signed, int_order}
 use Rattle.literals.specs.Literals.{Value, int, type_of, offset_of, value_of, value_at}
 use Rattle.literals.specs.LiteralLaws.{literal_int}
 use Rattle.orders.specs.Order.{order_by, compares_test}
-use Rattle.orders.specs.Instances.{numbers, texts, lt_z_numbers, below_texts}
+use Rattle.orders.specs.Instances.{numbers, texts, truths, lt_z_numbers, below_texts}
 use Rattle.orders.specs.Values.{order_of, by_order, compared, compared_from}
 use Rattle.orders.specs.ValueLaws.{order_of_turned}
-use Rattle.comparing.specs.declared.Compared.{Compared}
-use Rattle.comparing.specs.declared.Compared.TheVariants.{Apart, By}
 
 -- ---- orders
 
 -- how two values compare: an order, or none
-abbrev pub order_in : Compared → Option Ordering
-order_in Apart = none
-order_in (By r) = some r
+abbrev pub order_in : Maybe Ordering → Option Ordering
+order_in None = none
+order_in (Some r) = some r
 
 pub int_order_lem : (a b : ℤ) → int_order a b ≡ order_by numbers a b
 unfolding int_order order_by
@@ -33,6 +32,13 @@ int_order_lem a b = rw (lt_z_numbers a b, lt_z_numbers b a)
 pub text_order : (a b : List ℕ) → byte_order a b ≡ order_by texts a b
 unfolding byte_order order_by
 text_order a b = rw (below_texts a b, below_texts b a)
+
+pub truth_order : (a b : Bool) → bool_cmp a b ≡ order_by truths a b
+unfolding order_by
+truth_order false false = refl
+truth_order false true = refl
+truth_order true false = refl
+truth_order true true = refl
 
 -- ---- operators
 

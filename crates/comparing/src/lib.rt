@@ -14,19 +14,11 @@ ghost use Rattle.orders.specs.Values.{order_of, by_order, compared, compared_fro
 ghost use Rattle.cells.specs.Counts.{count_value};
 ghost use Rattle.comparing.specs.Comparing.{order_in, Asks, integer_top};
 
-use cells::Count;
 use kleene::Truth;
 use literals::Literal;
 use operators::Operator;
 use std::cmp::Ordering;
 use words::{Operand, Range};
-
-// How two values compare; apart where one is absent or null, or of another type.
-#[derive(Clone, Copy)]
-pub enum Compared {
-    Apart,
-    By(Ordering),
-}
 
 // A truth value that is known.
 pub fn truth_of(b: bool) -> Truth
@@ -48,61 +40,28 @@ fn compare_texts<'a>(literals: &'a [u8], cells: &'a [u8], cell: Range, literal: 
     words::compare_bytes(x, y)
 }
 
-// How two truth values compare: false lies below true.
-fn compare_truths(a: bool, b: bool) -> Ordering
-    ensures { result ≡ order_by truths a b }
-{
-    if a {
-        if b {
-            Ordering::Equal
-        } else {
-            Ordering::Greater
-        }
-    } else {
-        if b { Ordering::Less } else { Ordering::Equal }
-    }
-}
-
-// How a cell's value compares with a literal's.
+// How a cell's value compares with a literal's; none where one is absent or null, or of another type.
 pub fn compare_values<'a>(
     literals: &'a [u8],
     cells: &'a [u8],
     cell: Literal,
     literal: Literal,
-) -> Compared
+) -> Option<Ordering>
     ensures { order_in result ≡ order_of (value_of cells.now cell) (value_of literals.now literal) }
 {
-    match cell {
-        Literal::Null => Compared::Apart,
-        Literal::Int(a) => match literal {
-            Literal::Null => Compared::Apart,
-            Literal::Int(b) => Compared::By(literals::compare_ints(a, b)),
-            Literal::Text(_) => Compared::Apart,
-            Literal::Truth(_) => Compared::Apart,
-        },
-        Literal::Text(a) => match literal {
-            Literal::Null => Compared::Apart,
-            Literal::Int(_) => Compared::Apart,
-            Literal::Text(b) => Compared::By(compare_texts(literals, cells, a, b)),
-            Literal::Truth(_) => Compared::Apart,
-        },
-        Literal::Truth(a) => match literal {
-            Literal::Null => Compared::Apart,
-            Literal::Int(_) => Compared::Apart,
-            Literal::Text(_) => Compared::Apart,
-            Literal::Truth(b) => Compared::By(compare_truths(a, b)),
-        },
+    match (cell, literal) {
+        (Literal::Int(a), Literal::Int(b)) => Some(literals::compare_ints(a, b)),
+        (Literal::Text(a), Literal::Text(b)) => Some(compare_texts(literals, cells, a, b)),
+        (Literal::Truth(a), Literal::Truth(b)) => Some(a.cmp(&b)),
+        _ => None,
     }
 }
 
-// What an operator says of two values that compare so; unknown where they are apart.
-pub fn by_order(o: Operator, c: Compared) -> Truth
+// What an operator says of two values that compare so; unknown where they do not.
+pub fn by_order(o: Operator, c: Option<Ordering>) -> Truth
     ensures { result ≡ by_order o (order_in c) }
 {
-    match c {
-        Compared::Apart => Truth::Unknown,
-        Compared::By(r) => truth_of(o.holds(r)),
-    }
+    c.map_or(Truth::Unknown, |r| truth_of(o.holds(r)))
 }
 
 // A cell against a literal, which is written on the left where it is first.
@@ -118,11 +77,7 @@ pub fn against<'a>(
     ensures { result ≡ compared_from first o (value_of cells.now cell) (value_of literals.now literal) }
 {
     let c = compare_values(literals, cells, cell, literal);
-    if first {
-        by_order(o.swap(), c)
-    } else {
-        by_order(o, c)
-    }
+    by_order(if first { o.swap() } else { o }, c)
 }
 
 // Two integers, the second written on the left where it is first.
@@ -130,11 +85,12 @@ fn ints_against(o: Operator, a: i64, first: bool, b: i64) -> Truth
     requires { Asks o }
     ensures { result ≡ compared_from first o (int a) (int b) }
 {
-    if first {
-        by_order(o, Compared::By(literals::compare_ints(b, a)))
+    let r = if first {
+        literals::compare_ints(b, a)
     } else {
-        by_order(o, Compared::By(literals::compare_ints(a, b)))
-    }
+        literals::compare_ints(a, b)
+    };
+    truth_of(o.holds(r))
 }
 
 // Whether a word is an integer's: its type, length and zero field are tested at once.
@@ -163,15 +119,13 @@ pub fn against_words<'a>(
     requires { Asks o }
     ensures { result ≡ compared_from first o (value_at cells.now cell) (value_at literals.now literal) }
 {
-    if is_integer(cell) {
-        if is_integer(literal) {
-            return ints_against(
-                o,
-                integer_in(cells, cell),
-                first,
-                integer_in(literals, literal),
-            );
-        }
+    if is_integer(cell) && is_integer(literal) {
+        return ints_against(
+            o,
+            integer_in(cells, cell),
+            first,
+            integer_in(literals, literal),
+        );
     }
     against(
         literals,
@@ -184,26 +138,19 @@ pub fn against_words<'a>(
 }
 
 // A count above 0.
-pub fn is_positive(c: Count) -> Truth
+#[tactic(auto, using(crate::specs::Comparing::positive_is))]
+pub fn is_positive(c: Option<u64>) -> Truth
     ensures { result ≡ compared Above (count_value c) (int (pos 0)) }
 {
-    match c {
-        Count::Absent => Truth::Unknown,
-        Count::Of(n) => truth_of(0 < n),
-    }
+    c.map_or(Truth::Unknown, |n| truth_of(0 < n))
 }
 
 // Two counts that differ.
-pub fn differ(a: Count, b: Count) -> Truth
+#[tactic(auto, using(crate::specs::Comparing::differ_is))]
+pub fn differ(a: Option<u64>, b: Option<u64>) -> Truth
     ensures { result ≡ compared NotEqual (count_value a) (count_value b) }
 {
-    match a {
-        Count::Absent => Truth::Unknown,
-        Count::Of(x) => match b {
-            Count::Absent => Truth::Unknown,
-            Count::Of(y) => truth_of(x != y),
-        },
-    }
+    a.zip(b).map_or(Truth::Unknown, |(x, y)| truth_of(x != y))
 }
 
 // A truth value's cell as it stands; unknown where it is absent.
@@ -211,9 +158,7 @@ pub fn truth_in(cells: &[u8], cell: Literal) -> Truth
     ensures { result ≡ truth_in (value_of cells.now cell) }
 {
     match cell {
-        Literal::Null => Truth::Unknown,
-        Literal::Int(_) => Truth::Unknown,
-        Literal::Text(_) => Truth::Unknown,
         Literal::Truth(b) => truth_of(b),
+        _ => Truth::Unknown,
     }
 }

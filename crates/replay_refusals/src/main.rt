@@ -34,6 +34,10 @@ impl<const N: usize> Buffer<N> {
         &self.room[..self.len]
     }
 
+    fn is_full(&self) -> bool {
+        self.len == N
+    }
+
     // Puts a byte behind the others so many times, if there is room.
     fn put(&mut self, byte: u8, times: usize) -> Option<()> {
         if N - self.len < times {
@@ -183,8 +187,11 @@ impl Counts {
 impl Replay {
     // Ends the line; one that fills its buffer may be longer, and is not read.
     fn end_line(&mut self) {
-        let line = self.line.bytes();
-        let same = if line.len() < 4096 { replay_line(line) } else { None };
+        let same = if self.line.is_full() {
+            None
+        } else {
+            replay_line(self.line.bytes())
+        };
         self.counts.count(same);
         self.line = Buffer::new();
     }
@@ -234,5 +241,8 @@ fn replay_named(rt: &impl Files, name: &str) -> io::Result<Counts> {
 
 fn main(rt: HostRuntime) -> io::Result<()> {
     let n = replay_named(&rt, "refusals.txt")?;
-    println!(rt; "{} replayed, {} differ, {} unread", n.replayed, n.differ, n.unread)
+    println!(rt;
+        "{} replayed, {} differ, {} unread",
+        n.replayed, n.differ, n.unread
+    )
 }
