@@ -8,8 +8,10 @@ use Rattle.statistics.specs.declared.Statistic.{Statistic}
 use Rattle.table.specs.Tables.{Table}
 use Rattle.table.specs.Measures.{table_width}
 use Rattle.table.specs.Nests.{run_words, run_pool, opens, member_tables}
+use Rattle.listing.specs.Listing.{list_of}
 use Rattle.writing.specs.declared.Spot.{Spot}
-use Rattle.writing.specs.Writing.{Wide}
+use Rattle.writing.specs.declared.Writer.{Writer}
+use Rattle.writing.specs.Writing.{Wide, Keeps}
 
 -- words of tables one after the other
 abbrev pub run_width : List Table → ℕ
@@ -28,14 +30,20 @@ pub record Ran (ts : List Table) (list : List Statistic) (s : Spot) (old new old
   pub table : new ≡ sets old (8 * s.to) (bytes_of (run_words list s.off ts))
   pub pool : new_pool ≡ sets old_pool s.off (run_pool ts)
 
+-- ---- the same of a writer, before and after
+
+abbrev pub RoomsFor : List Table → Writer → Type 0
+RoomsFor ts w = Rooms ts w.at w.table.now w.pool.now
+
+pub record RanBy (ts : List Table) (w v : Writer) : Type 0 where
+  pub ran : Ran ts (list_of w.list.now) w.at w.table.now v.table.now w.pool.now v.pool.now v.at
+  pub keeps : Keeps w v
+
+-- ---- the members of a list
+
 -- the members that stay, of m literals whose words stand from a place on
 unfoldable pub open_at : List ℕ → List ℕ → List ℕ → Bool → Column → ℕ → ℕ → ℕ → List Table
 open_at schema pool ws b c flips m at = opens (member_tables schema b c flips (values_at pool ws m at))
-
--- 1 for an open member
-abbrev pub one_of : Bool → ℕ
-one_of true = 1
-one_of false = 0
 
 -- whether a form is left where m of n members are open: IN asks all of them, NOT IN any
 abbrev pub has_form : Bool → ℕ → ℕ → Bool
