@@ -12,6 +12,7 @@ use Rattle.guarantees.specs.Guarantees as Guarantees
 use Rattle.pruning.specs.TableReading.{kind_of, operator_field, first_field, second_field, literal_first_field, zero_field, statistic_at, table_node_at}
 use Rattle.pruning.specs.declared.TableNode.{TableNode}
 use Rattle.pruning.specs.declared.TableNode.TheVariants.{Always, Join, Against, Positive, Differ, Holds, Negation}
+use Rattle.pruning.specs.declared.TableShape.{TableShape}
 
 -- ---- a statistics list
 
@@ -37,14 +38,7 @@ guarantees_fine schema [] = true
 guarantees_fine schema (w ∷ ws) =
     eqb (Guarantees.zero_field w) 0 && (ltb (Guarantees.column_field w) (length schema) && guarantees_fine schema ws)
 
--- ---- a table's word
-
--- what a kind of node has: so many operators, from 0, and which of the fields that only some kinds have
-pub record TableShape : Type 0 where
-  pub operators : ℕ
-  pub first : Bool
-  pub second : Bool
-  pub literal_first : Bool
+-- ---- a table's word: what its kind has
 
 abbrev pub naming : ℕ → Bool → Bool → Bool → TableShape
 naming n a b c = record { operators = n; first = a; second = b; literal_first = c }

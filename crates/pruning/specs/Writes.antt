@@ -35,9 +35,10 @@ use Rattle.guarantees.specs.Guarantees.{Guarantee, guarantee_words}
 use Rattle.guarantees.specs.GuaranteeLaws.{AllSmall, guarantee_column, guarantee_zero, length_guarantees, guarantees_below}
 use Rattle.guarantees.specs.Bounds.{Placed}
 use Rattle.pruning.specs.TableReading.{kind_of, operator_field, first_field, second_field, literal_first_field, zero_field, table_node_of, table_at}
-use Rattle.pruning.specs.TableChecking.{statistic_fine, stands_in, statistics_fine, guarantees_fine, TableShape, table_shape_of, table_formed, is_bound, is_blanks, is_rows, bound_type, table_literal, named, table_named, table_behind, check_table_from, table_fine, words_within, checked_table}
+use Rattle.pruning.specs.TableChecking.{statistic_fine, stands_in, statistics_fine, guarantees_fine, table_shape_of, table_formed, is_bound, is_blanks, is_rows, bound_type, table_literal, named, table_named, table_behind, check_table_from, table_fine, words_within, checked_table}
 use Rattle.pruning.specs.RoundTrip.{always_node, join_node, against_node, positive_node, differ_node, holds_node, negation_node, word_here_lem, word_next, skip, table_back}
 use Rattle.pruning.specs.declared.TableNode.{TableNode}
+use Rattle.pruning.specs.declared.TableShape.{TableShape}
 use Rattle.pruning.specs.declared.TableNode.TheVariants.{Always, Join, Negation}
 
 -- ---- literals

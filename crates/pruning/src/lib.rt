@@ -1,20 +1,20 @@
 // Nodes of rewritten tables, and the word lists of a checked table.
 #![tactic(auto)]
 
-ghost use Rattle.std.specs.Prelude.{◌≡◌, drop};
+ghost use Rattle.std.specs.Prelude.{◌≡◌, false, drop};
 ghost use Rattle.words.specs.Word.{words_of};
-ghost use Rattle.operators.specs.Operators.{operator_of};
-ghost use Rattle.predicate.specs.Nodes.{or_equal};
-ghost use Rattle.predicate.specs.Checking.{unused_zero};
+ghost use Rattle.table.specs.Encoding.{number_of_kind};
 ghost use Rattle.pruning.specs.TableReading.{kind_of, operator_field, first_field, second_field, literal_first_field, table_node_of, table_node_at};
-ghost use Rattle.pruning.specs.TableChecking.{statistic_fine, stands_in, statistics_fine, guarantees_fine, naming, table_formed};
+ghost use Rattle.pruning.specs.TableChecking.{statistic_fine, stands_in, statistics_fine, guarantees_fine, naming, table_shape_of, table_formed};
 ghost use Rattle.pruning.specs.NodeLaws.{formed_so};
 ghost use Rattle.pruning.specs.CheckingLaws.{guarantee_fine};
 
 use kleene::Joining;
 use literals::Literal;
-use operators::{Operator, OperatorRead};
+use operators::Operator;
+pub use predicate::operator_or_equal;
 use statistics::Place;
+use table::Kind;
 
 // A rewritten node; a comparison carries its literal.
 #[derive(Clone, Copy)]
@@ -27,6 +27,15 @@ pub enum TableNode {
     Differ(Place, Place),
     Holds(Place),
     Negation,
+}
+
+// What a kind of node has: so many operators, from 0, and which of the fields that only some kinds have.
+#[derive(Clone, Copy)]
+pub struct TableShape {
+    pub operators: u8,
+    pub first: bool,
+    pub second: bool,
+    pub literal_first: bool,
 }
 
 // A table word's kind.
@@ -64,35 +73,26 @@ pub fn literal_first_of(w: u64) -> u8
     words::field::<39, 1>(w) as u8
 }
 
-// The operator of a code; an unknown code reads as =.
-pub fn operator_or_equal(n: u8) -> Operator
-    ensures { result ≡ or_equal (operator_of n) }
-{
-    match Operator::of_code(n) {
-        OperatorRead::Known(o) => o,
-        OperatorRead::Unknown => Operator::Equal,
-    }
-}
-
-// The node of a word w and the word l behind it, a total reading.
+// The node of a word w and the word l behind it, a total reading; an unknown kind reads as true.
+#[tactic(auto, using(crate::specs::NodeLaws::node_kinds))]
 pub fn table_node_of(pool: &[u8], w: u64, l: u64) -> TableNode
     ensures { result ≡ table_node_of pool.now w l }
 {
-    match kind_of(w) {
-        0 => TableNode::Always(operator_of(w) == 1),
-        1 => TableNode::Join(Joining::And),
-        2 => TableNode::Join(Joining::Or),
-        3 => TableNode::Against(
+    match Kind::of_number(kind_of(w)) {
+        Some(Kind::Always) => TableNode::Always(operator_of(w) == 1),
+        Some(Kind::And) => TableNode::Join(Joining::And),
+        Some(Kind::Or) => TableNode::Join(Joining::Or),
+        Some(Kind::Against) => TableNode::Against(
             operator_or_equal(operator_of(w)),
             Place(first_of(w)),
             literal_first_of(w) == 1,
             literals::literal_of(pool, l),
         ),
-        4 => TableNode::Positive(Place(first_of(w))),
-        5 => TableNode::Differ(Place(first_of(w)), Place(second_of(w))),
-        6 => TableNode::Holds(Place(first_of(w))),
-        7 => TableNode::Negation,
-        _ => TableNode::Always(true),
+        Some(Kind::Positive) => TableNode::Positive(Place(first_of(w))),
+        Some(Kind::Differ) => TableNode::Differ(Place(first_of(w)), Place(second_of(w))),
+        Some(Kind::Holds) => TableNode::Holds(Place(first_of(w))),
+        Some(Kind::Negation) => TableNode::Negation,
+        None => TableNode::Always(true),
     }
 }
 
@@ -111,118 +111,102 @@ pub fn table_node_at(pool: &[u8], table: &[u8], at: usize) -> TableNode
     }
 }
 
-// A field that a kind has not is zero.
-fn unused_zero(used: bool, v: u8) -> bool
-    ensures { result ≡ unused_zero used v }
+// A kind that has n operators and none of those fields.
+fn bare(n: u8) -> TableShape
+    ensures { result ≡ naming n false false false }
 {
-    if used { true } else { v == 0 }
+    TableShape {
+        operators: n,
+        first: false,
+        second: false,
+        literal_first: false,
+    }
 }
 
-// A word has an operator below a number, and is zero in each field that its kind has not.
-fn formed_so(w: u64, operators: u8, first: bool, second: bool, literal_first: bool) -> bool
-    ensures { result ≡ formed_so w (naming operators first second literal_first) }
+// What a kind of node has.
+fn shape_of(kind: Kind) -> TableShape
+    ensures { result ≡ table_shape_of (number_of_kind kind) }
 {
-    if operators <= operator_of(w) {
-        return false;
+    match kind {
+        Kind::Always => bare(2),
+        Kind::And | Kind::Or | Kind::Negation => bare(1),
+        Kind::Against => TableShape {
+            first: true,
+            literal_first: true,
+            ..bare(6)
+        },
+        Kind::Positive | Kind::Holds => TableShape {
+            first: true,
+            ..bare(1)
+        },
+        Kind::Differ => TableShape {
+            first: true,
+            second: true,
+            ..bare(1)
+        },
     }
-    if !unused_zero(first, first_of(w)) {
-        return false;
-    }
-    if !unused_zero(second, second_of(w)) {
-        return false;
-    }
-    if !unused_zero(literal_first, literal_first_of(w)) {
-        return false;
-    }
-    w % 549755813888 == 0
+}
+
+// A word has an operator of its kind, and is zero in each field that its kind has not.
+fn formed_so(w: u64, s: TableShape) -> bool
+    ensures { result ≡ formed_so w s }
+{
+    operator_of(w) < s.operators
+        && (s.first || first_of(w) == 0)
+        && (s.second || second_of(w) == 0)
+        && (s.literal_first || literal_first_of(w) == 0)
+        && w % 549755813888 == 0
 }
 
 // A known kind and operator, every unnamed and unused field zero.
+#[tactic(auto, using(crate::specs::NodeLaws::formed_kinds))]
 pub fn table_formed(w: u64) -> bool
     ensures { result ≡ table_formed w }
 {
-    match kind_of(w) {
-        0 => formed_so(w, 2, false, false, false),
-        1 => formed_so(w, 1, false, false, false),
-        2 => formed_so(w, 1, false, false, false),
-        3 => formed_so(w, 6, true, false, true),
-        4 => formed_so(w, 1, true, false, false),
-        5 => formed_so(w, 1, true, true, false),
-        6 => formed_so(w, 1, true, false, false),
-        7 => formed_so(w, 1, false, false, false),
-        _ => false,
+    match Kind::of_number(kind_of(w)) {
+        Some(kind) => formed_so(w, shape_of(kind)),
+        None => false,
     }
 }
 
 // A statistic's word: unnamed fields zero, the column in the schema, the rows entry with column 0.
+#[tactic(auto, unfolding(crate::specs::TableChecking::statistic_fine))]
 fn statistic_fine(schema: &[u8], w: u64) -> bool
     ensures { result ≡ statistic_fine schema.now w }
 {
     let c = (w / 72057594037927936 % 256) as usize;
-    if w % 18014398509481984 != 0 {
-        return false;
-    }
-    if schema.len() <= c {
-        return false;
-    }
-    if w / 18014398509481984 % 4 < 3 {
-        return true;
-    }
-    c == 0
+    w % 18014398509481984 == 0
+        && c < schema.len()
+        && (w / 18014398509481984 % 4 < 3 || c == 0)
 }
 
 // Whether a word stands in a list, from a place on.
 fn stands_from(list: &[u8], from: usize, w: u64) -> bool
     ensures { result ≡ stands_in w (drop from (words_of list.now)) }
 {
-    let mut j = from;
-    while j < list.len() / 8 {
-        if words::word_or_zero(list, j) == w {
-            return true;
-        }
-        j += 1;
-    }
-    false
+    (from..list.len() / 8).any(|j| words::word_or_zero(list, j) == w)
 }
 
 // Every statistic's word is fine, and no statistic stands twice.
 pub fn statistics_fine(schema: &[u8], list: &[u8]) -> bool
     ensures { result ≡ statistics_fine schema.now (words_of list.now) }
 {
-    let mut i = 0;
-    while i < list.len() / 8 {
+    (0..list.len() / 8).all(|i| {
         let w = words::word_or_zero(list, i);
-        if !statistic_fine(schema, w) {
-            return false;
-        }
-        if stands_from(list, i + 1, w) {
-            return false;
-        }
-        i += 1;
-    }
-    true
+        statistic_fine(schema, w) && !stands_from(list, i + 1, w)
+    })
 }
 
 // A guarantee's word: unnamed fields zero, the column in the schema.
 fn guarantee_fine(schema: &[u8], w: u64) -> bool
     ensures { result ≡ guarantee_fine schema.now w }
 {
-    if w % 549755813888 != 0 {
-        return false;
-    }
-    (words::field::<56, 8>(w) as usize) < schema.len()
+    w % 549755813888 == 0 && (words::field::<56, 8>(w) as usize) < schema.len()
 }
 
 // Every guarantee's word is fine.
 pub fn guarantees_fine(schema: &[u8], list: &[u8]) -> bool
     ensures { result ≡ guarantees_fine schema.now (words_of list.now) }
 {
-    let mut i = 0;
-    while i < list.len() / 8 {
-        if !guarantee_fine(schema, words::word_or_zero(list, i)) {
-            return false;
-        }
-        i += 1;
-    }
-    true
+    (0..list.len() / 8).all(|i| guarantee_fine(schema, words::word_or_zero(list, i)))
 }

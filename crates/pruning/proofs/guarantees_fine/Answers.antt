@@ -1,21 +1,19 @@
--- What is left of the list, from a place on, is fine or not. Assumes nothing.
-use mathlib.Core.Path.{refl, sym, ap, ◌∙◌}
-use mathlib.Core.Bool.{not}
-use Rattle.pruning.specs.CheckingLaws.{guarantees_end, guarantee_faulty, guarantee_next}
+-- All places. Assumes nothing.
+use Prim.Native.Nat.{ℕ, ◌/◌}
+use Rattle.std.specs.Prelude.{List, length, get_or}
+use Rattle.std.proofs.Common.{refl, ◌∙◌, rules, arith}
+use borrow.Author.Tests.{tests}
+use Rattle.std.proofs.lemmas.Iterator.{YieldsList-from_range}
+use Rattle.std.proofs.lemmas.Iterator.Search.{all_from_yields_List}
+use Rattle.words.specs.Word.{words_of}
+use Rattle.words.specs.WordLaws.{length_words}
+use Rattle.pruning.specs.CheckingLaws.{guarantee_fine, guarantees_walked}
 use Rattle.pruning.proofs.guarantees_fine.Goals as goal
-
-pub loop-i-init : goal.loop-i-init
-loop-i-init c =
-    refl
-
-pub returns-then-not-guarantee_fine : goal.returns-then-not-guarantee_fine
-returns-then-not-guarantee_fine c =
-    sym (c.loop-i.invariant ∙ guarantee_faulty _ _ c.loop-i-test.true _ c.word_or_zero.ensures _ c.guarantee_fine.result c.guarantee_fine.ensures (ap not c.if-not-guarantee_fine.true))
-
-pub loop-i-preserved : goal.loop-i-preserved
-loop-i-preserved c =
-    c.loop-i.invariant ∙ guarantee_next _ _ c.loop-i-test.true _ c.word_or_zero.ensures _ c.guarantee_fine.result c.guarantee_fine.ensures (ap not c.if-not-guarantee_fine.false)
 
 pub returns : goal.returns
 returns c =
-    sym (c.loop-i.invariant ∙ guarantees_end _ _ c.loop-i-test.false _)
+    let a = c.args in
+    let ws : List ℕ = words_of a.list.now in
+    let n : ℕ = length a.list.now / 8 in
+    all_from_yields_List (λ (i : ℕ). guarantee_fine a.schema.now (get_or ws i 0)) _ _ c.all.result c.all.ensures.ran (YieldsList-from_range 0 n n refl (omega arith)) (λ x b q k. search (rules, tests))
+    ∙ guarantees_walked ws a.schema.now n 0 (omega (arith, length_words a.list.now))

@@ -1,20 +1,19 @@
--- What is left of the list, from a place on, has the word or not. Assumes nothing.
-use mathlib.Core.Path.{refl, sym, ◌∙◌}
-use Rattle.pruning.specs.CheckingLaws.{stands_end, stands_here, stands_further}
+-- Any place from there on. Assumes nothing.
+use Prim.Native.Nat.{ℕ, ◌-◌, ◌/◌}
+use Rattle.std.specs.Prelude.{List, length, get_or, eqb}
+use Rattle.std.proofs.Common.{refl, ◌∙◌, rules}
+use borrow.Author.Tests.{tests}
+use Rattle.std.proofs.lemmas.Iterator.{YieldsList-from_range}
+use Rattle.std.proofs.lemmas.Iterator.Search.{any_from_yields_List}
+use Rattle.words.specs.Word.{words_of}
+use Rattle.words.specs.WordLaws.{length_words}
+use Rattle.pruning.specs.CheckingLaws.{stands_walked}
 use Rattle.pruning.proofs.stands_from.Goals as goal
-
-pub loop-j-init : goal.loop-j-init
-loop-j-init c =
-    refl
-
-pub returns-then-word_or_zero-w : goal.returns-then-word_or_zero-w
-returns-then-word_or_zero-w c =
-    sym (c.loop-j.invariant ∙ stands_here _ _ c.loop-j-test.true _ c.word_or_zero.ensures _ c.if-word_or_zero-w.true)
-
-pub loop-j-preserved : goal.loop-j-preserved
-loop-j-preserved c =
-    c.loop-j.invariant ∙ stands_further _ _ c.loop-j-test.true _ c.word_or_zero.ensures _ c.if-word_or_zero-w.false
 
 pub returns : goal.returns
 returns c =
-    sym (c.loop-j.invariant ∙ stands_end _ _ c.loop-j-test.false _)
+    let a = c.args in
+    let ws : List ℕ = words_of a.list.now in
+    let n : ℕ = length a.list.now / 8 - a.from in
+    any_from_yields_List (λ (i : ℕ). eqb (get_or ws i 0) a.w) _ _ c.any.result c.any.ensures.ran (YieldsList-from_range a.from (length a.list.now / 8) n refl refl) (λ x b q k. search (rules, tests))
+    ∙ stands_walked ws a.w n a.from (rw length_words)

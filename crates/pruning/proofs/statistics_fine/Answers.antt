@@ -1,25 +1,19 @@
--- What is left of the list, from a place on, is fine or not. Assumes nothing.
-use mathlib.Core.Path.{refl, sym, ap, ◌∙◌}
-use mathlib.Core.Bool.{not}
-use Rattle.pruning.specs.CheckingLaws.{statistics_end, statistic_faulty, statistic_twice, statistic_next}
+-- All places. Assumes nothing.
+use Prim.Native.Nat.{ℕ, ◌/◌}
+use Rattle.std.specs.Prelude.{List, length}
+use Rattle.std.proofs.Common.{refl, ◌∙◌, rules, arith}
+use borrow.Author.Tests.{tests}
+use Rattle.std.proofs.lemmas.Iterator.{YieldsList-from_range}
+use Rattle.std.proofs.lemmas.Iterator.Search.{all_from_yields_List}
+use Rattle.words.specs.Word.{words_of}
+use Rattle.words.specs.WordLaws.{length_words}
+use Rattle.pruning.specs.CheckingLaws.{statistic_alone, statistics_walked}
 use Rattle.pruning.proofs.statistics_fine.Goals as goal
-
-pub loop-i-init : goal.loop-i-init
-loop-i-init c =
-    refl
-
-pub returns-then-not-statistic_fine : goal.returns-then-not-statistic_fine
-returns-then-not-statistic_fine c =
-    sym (c.loop-i.invariant ∙ statistic_faulty _ _ c.loop-i-test.true _ c.word_or_zero-w.ensures _ c.statistic_fine.result c.statistic_fine.ensures (ap not c.if-not-statistic_fine.true))
-
-pub returns-then-stands_from : goal.returns-then-stands_from
-returns-then-stands_from c =
-    sym (c.loop-i.invariant ∙ statistic_twice _ _ c.loop-i-test.true _ c.word_or_zero-w.ensures _ c.statistic_fine.result c.statistic_fine.ensures (ap not c.if-not-statistic_fine.false) c.stands_from.result c.stands_from.ensures c.if-stands_from.true)
-
-pub loop-i-preserved : goal.loop-i-preserved
-loop-i-preserved c =
-    c.loop-i.invariant ∙ statistic_next _ _ c.loop-i-test.true _ c.word_or_zero-w.ensures _ c.statistic_fine.result c.statistic_fine.ensures (ap not c.if-not-statistic_fine.false) c.stands_from.result c.stands_from.ensures c.if-stands_from.false
 
 pub returns : goal.returns
 returns c =
-    sym (c.loop-i.invariant ∙ statistics_end _ _ c.loop-i-test.false _)
+    let a = c.args in
+    let ws : List ℕ = words_of a.list.now in
+    let n : ℕ = length a.list.now / 8 in
+    all_from_yields_List (statistic_alone a.schema.now ws) _ _ c.all.result c.all.ensures.ran (YieldsList-from_range 0 n n refl (omega arith)) (λ x b q k. search (rules, tests))
+    ∙ statistics_walked ws a.schema.now n 0 (omega (arith, length_words a.list.now))
