@@ -1,13 +1,13 @@
 -- The statistics list at the front of a buffer: what stands there, the room that it grows into, and what growing leaves.
 -- Assumes nothing.
-use Rattle.std.specs.Prelude.{◌≡◌, Bool, true, false, cond, List, [], ◌∷◌, ℕ, suc, ◌*◌, ◌≤◌, ◌<◌, length, take, drop, eqb}
+use Rattle.std.specs.Prelude.{◌≡◌, Bool, true, false, List, [], ◌∷◌, ℕ, ◌*◌, ◌≤◌, ◌<◌, length, take, drop}
 use Rattle.std.proofs.Math.Option.{Option, some, none}
 use Rattle.std.proofs.lemmas.List.Edits.{sets}
 use Rattle.words.specs.Word.{words_of, bytes_of}
 use Rattle.predicate.specs.declared.Column.{Column}
 use Rattle.statistics.specs.declared.Statistic.{Statistic}
 use Rattle.statistics.specs.declared.Statistic.TheVariants.{Least, Greatest, Blanks, Rows}
-use Rattle.statistics.specs.Statistics.{statistic_words, statistics_of, key_of, added_all}
+use Rattle.statistics.specs.Statistics.{statistic_words, statistics_of, added_all}
 
 -- the list that a buffer's words stand for
 abbrev pub list_of : List ℕ → List Statistic
@@ -16,11 +16,6 @@ list_of bs = statistics_of (words_of bs)
 -- the first n of them
 unfoldable pub listed_in : ℕ → List ℕ → List Statistic
 listed_in n bs = list_of (take (8 * n) bs)
-
--- where a key stands in a list; the list's length where it does not
-unfoldable pub key_place : ℕ → List Statistic → ℕ
-key_place key [] = 0
-key_place key (x ∷ xs) = cond (eqb (key_of x) key) 0 (suc (key_place key xs))
 
 -- fewer than 256 of them, so that every place is one byte
 abbrev pub Few : List ℕ → Type 0

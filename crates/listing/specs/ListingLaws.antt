@@ -16,6 +16,7 @@ use Rattle.statistics.specs.declared.Statistic.{Statistic}
 use Rattle.statistics.specs.declared.Statistic.TheVariants.{Least, Greatest}
 use Rattle.statistics.specs.Statistics.{column_in, statistic_word, statistic_words, statistics_of, place_of, added, added_all}
 use Rattle.statistics.specs.ListLaws.{Columns, place_most, added_old, added_new, all_none, all_cons, added_all_append, added_all_front, added_all_most, statistics_bytes_lem, length_statistics}
+use Rattle.statistics.specs.Reading.{length_read}
 use Rattle.literals.specs.Literals.{Value}
 use Rattle.table.specs.Comparisons.{bounded_lists, pattern_upper, like_lists}
 use Rattle.listing.specs.Listing.{list_of, listed_in, Few, Room, Grown, is_bounded, like_listed}
@@ -46,21 +47,16 @@ unfolding statistics_of
 statistics_append [] b = refl
 statistics_append (w ∷ a) b = rw (statistics_append a b)
 
-length_list : (ws : List ℕ) → length (statistics_of ws) ≡ length ws
-unfolding statistics_of
-length_list [] = refl
-length_list (w ∷ ws) = ap suc (length_list ws)
-
 -- ---- the first n statistics
 
 pub listed_length : (n : ℕ) (bs : List ℕ) → 8 * n ≤ length bs → length (listed_in n bs) ≡ n
 unfolding listed_in
-listed_length n bs h = rw (length_list, length_words, length-take-le (8 * n) bs h) (omega arith)
+listed_length n bs h = rw (length_read, length_words, length-take-le (8 * n) bs h) (omega arith)
 
 -- few statistics have places of one byte
 pub place_few : (s : Statistic) (bs : List ℕ) → Few bs → place_of s (list_of bs) < 256
 place_few s bs h =
-    let l : length (list_of bs) ≡ length bs / 8 = rw (length_list, length_words) in
+    let l : length (list_of bs) ≡ length bs / 8 = rw (length_read, length_words) in
     omega (arith, place_most s (list_of bs))
 
 -- a list that was written there is read back

@@ -2,76 +2,44 @@
 #![tactic(auto)]
 
 ghost use Rattle.std.specs.Prelude.{◌≡◌, [], ◌∷◌, ◌<◌};
-ghost use Rattle.operators.specs.declared.Operator.TheVariants.{Equal, Distinct};
 ghost use Rattle.statistics.specs.declared.Statistic.TheVariants.{Blanks, Rows};
 ghost use Rattle.statistics.specs.Statistics.{key_of, statistic_of, place_of};
 ghost use Rattle.table.specs.Comparisons.{comparison_lists};
 ghost use Rattle.table.specs.Rewriting.{column_lists};
-ghost use Rattle.listing.specs.Listing.{list_of, key_place, Few, Room, Grown, like_listed};
+ghost use Rattle.listing.specs.Listing.{list_of, Few, Room, Grown, like_listed};
 
 use operators::Operator;
 use predicate::Column;
 use statistics::{Place, Statistic};
 
-// A byte as a number.
-fn wide(x: u8) -> u64
-    ensures { (result ≡ x) × (result < 256) }
-{
-    x as u64
-}
-
-// Column and type of a statistic as one number.
-fn key_of(s: Statistic) -> u64
-    ensures { (result ≡ key_of s) × (result < 1024) }
-{
-    match s {
-        Statistic::Least(c) => wide(c.0) * 4,
-        Statistic::Greatest(c) => wide(c.0) * 4 + 1,
-        Statistic::Blanks(c) => wide(c.0) * 4 + 2,
-        Statistic::Rows => 3,
-    }
-}
-
-// The same of a word.
+// The column and type of a word's statistic as one number.
 fn word_key(w: u64) -> u64
     ensures { result ≡ key_of (statistic_of w) }
 {
-    let kind = w / 18014398509481984 % 4;
-    if kind == 3 {
-        return 3;
-    }
-    w / 72057594037927936 % 256 * 4 + kind
-}
-
-// The place of a key in a list, the list's length where it is not there.
-fn find_key(list: &[u8], key: u64) -> usize
-    ensures { result ≡ key_place key (list_of list.now) }
-{
-    let n = list.len() / 8;
-    let mut i = 0;
-    while i < n {
-        if word_key(words::word_or_zero(list, i)) == key {
-            return i;
-        }
-        i += 1;
-    }
-    i
+    statistics::key_of(statistics::statistic_of(w))
 }
 
 // The place of a statistic in a list, the list's length where it is not there: find_stat_column.
 pub fn find(list: &[u8], s: Statistic) -> usize
     ensures { result ≡ place_of s (list_of list.now) }
 {
-    find_key(list, key_of(s))
+    let key = statistics::key_of(s);
+    let n = list.len() / 8;
+    for i in 0..n {
+        if word_key(words::word_or_zero(list, i)) == key {
+            return i;
+        }
+    }
+    n
 }
 
 // The same as a place.
+#[tactic(auto, using(crate::specs::ListingLaws::place_few))]
 pub fn place_of(list: &[u8], s: Statistic) -> Place
     requires { Few list.now }
     ensures { result ≡ record { 0 = place_of s (list_of list.now) } }
 {
-    let i = find(list, s) as u8;
-    Place(i)
+    Place(find(list, s) as u8)
 }
 
 // Lists a statistic behind the first n, unless it is among them: stat_column_expr.
@@ -80,20 +48,23 @@ pub fn add(list: &mut [u8], n: usize, s: Statistic) -> usize
     ensures { Grown (s ∷ []) n list.old list.new result }
 {
     let end = 8 * n;
-    if find(&list[0..end], s) < n {
+    if find(&list[..end], s) < n {
         return n;
     }
-    words::put_word(list, end, key_of(s) * 18014398509481984);
+    words::put_word(list, end, statistics::statistic_word(s));
     n + 1
 }
 
-// Lists two statistics.
-fn add_two(list: &mut [u8], n: usize, s: Statistic, t: Statistic) -> usize
-    requires { Room (s ∷ t ∷ []) n list.old }
-    ensures { Grown (s ∷ t ∷ []) n list.old list.new result }
+// Lists statistics, one after the other.
+fn list_all(list: &mut [u8], n: usize, all: &[Statistic]) -> usize
+    requires { Room all.now n list.old }
+    ensures { Grown all.now n list.old list.new result }
 {
-    let m = add(list, n, s);
-    add(list, m, t)
+    let mut m = n;
+    for s in all {
+        m = add(list, m, *s);
+    }
+    m
 }
 
 // Lists a column's least and greatest.
@@ -101,7 +72,7 @@ pub fn list_column(list: &mut [u8], n: usize, c: Column) -> usize
     requires { Room (column_lists c) n list.old }
     ensures { Grown (column_lists c) n list.old list.new result }
 {
-    add_two(list, n, Statistic::Least(c), Statistic::Greatest(c))
+    list_all(list, n, &[Statistic::Least(c), Statistic::Greatest(c)])
 }
 
 // Lists what IS NULL reads: null_count_column_expr.
@@ -117,34 +88,7 @@ pub fn list_blanks_rows(list: &mut [u8], n: usize, c: Column) -> usize
     requires { Room (Blanks c ∷ Rows ∷ []) n list.old }
     ensures { Grown (Blanks c ∷ Rows ∷ []) n list.old list.new result }
 {
-    add_two(list, n, Statistic::Blanks(c), Statistic::Rows)
-}
-
-// Lists one bound of a column, blanks and rows.
-fn list_bound(list: &mut [u8], n: usize, s: Statistic, c: Column) -> usize
-    requires { Room (s ∷ Blanks c ∷ Rows ∷ []) n list.old }
-    ensures { Grown (s ∷ Blanks c ∷ Rows ∷ []) n list.old list.new result }
-{
-    let m = add(list, n, s);
-    list_blanks_rows(list, m, c)
-}
-
-// Lists the bounds of a column, blanks and rows.
-fn list_bounds(list: &mut [u8], n: usize, c: Column) -> usize
-    requires { Room (comparison_lists c Equal) n list.old }
-    ensures { Grown (comparison_lists c Equal) n list.old list.new result }
-{
-    let m = list_column(list, n, c);
-    list_blanks_rows(list, m, c)
-}
-
-// Lists blanks and rows, then the bounds.
-fn list_distinct(list: &mut [u8], n: usize, c: Column) -> usize
-    requires { Room (comparison_lists c Distinct) n list.old }
-    ensures { Grown (comparison_lists c Distinct) n list.old list.new result }
-{
-    let m = list_blanks_rows(list, n, c);
-    list_column(list, m, c)
+    list_all(list, n, &[Statistic::Blanks(c), Statistic::Rows])
 }
 
 // Lists what LIKE reads of a pattern with an upper bound, or without: build_like_match.
@@ -153,9 +97,16 @@ pub fn list_like(list: &mut [u8], n: usize, c: Column, bounded: bool) -> usize
     ensures { Grown (like_listed c bounded) n list.old list.new result }
 {
     if bounded {
-        return list_bounds(list, n, c);
+        let all = [
+            Statistic::Least(c),
+            Statistic::Greatest(c),
+            Statistic::Blanks(c),
+            Statistic::Rows,
+        ];
+        list_all(list, n, &all)
+    } else {
+        list_column(list, n, c)
     }
-    list_column(list, n, c)
 }
 
 // Lists what a comparison with an operator reads.
@@ -163,14 +114,16 @@ pub fn list_comparison(list: &mut [u8], n: usize, c: Column, o: Operator) -> usi
     requires { Room (comparison_lists c o) n list.old }
     ensures { Grown (comparison_lists c o) n list.old list.new result }
 {
+    let (least, greatest) = (Statistic::Least(c), Statistic::Greatest(c));
+    let (blanks, rows) = (Statistic::Blanks(c), Statistic::Rows);
     match o {
-        Operator::Equal => list_bounds(list, n, c),
-        Operator::NotEqual => list_bounds(list, n, c),
-        Operator::Below => list_bound(list, n, Statistic::Least(c), c),
-        Operator::AtMost => list_bound(list, n, Statistic::Least(c), c),
-        Operator::Above => list_bound(list, n, Statistic::Greatest(c), c),
-        Operator::AtLeast => list_bound(list, n, Statistic::Greatest(c), c),
-        Operator::Distinct => list_distinct(list, n, c),
-        Operator::NotDistinct => list_distinct(list, n, c),
+        Operator::Equal | Operator::NotEqual => {
+            list_all(list, n, &[least, greatest, blanks, rows])
+        }
+        Operator::Below | Operator::AtMost => list_all(list, n, &[least, blanks, rows]),
+        Operator::Above | Operator::AtLeast => list_all(list, n, &[greatest, blanks, rows]),
+        Operator::Distinct | Operator::NotDistinct => {
+            list_all(list, n, &[blanks, rows, least, greatest])
+        }
     }
 }

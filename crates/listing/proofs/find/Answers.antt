@@ -1,9 +1,20 @@
--- A statistic stands where its key does. Assumes nothing.
-use mathlib.Core.Path.{◌∙◌}
-use Rattle.listing.specs.Listing.{list_of}
-use Rattle.listing.proofs.Laws.{place_key}
+-- A word with the key, another, and none left. Assumes nothing.
+use Rattle.std.proofs.Common.{arith, sym, ◌∙◌}
+use Rattle.listing.proofs.Laws.{left_all, place_here, place_on, place_end}
 use Rattle.listing.proofs.find.Goals as goal
 
+pub loop-i-init : goal.loop-i-init
+loop-i-init c = left_all c.args.s c.args.list.now
+
+pub returns-then-word_key-key : goal.returns-then-word_key-key
+returns-then-word_key-key c =
+    place_here c.args.s c.args.list.now c.loop-i.i c.loop-i.invariant c.loop-i-test.true
+    (rw c.word_or_zero.ensures at (sym c.word_key.ensures ∙ c.if-word_key-key.true ∙ c.key_of-key.ensures.0))
+
+pub loop-i-preserved : goal.loop-i-preserved
+loop-i-preserved c =
+    place_on c.args.s c.args.list.now c.loop-i.i c.loop-i.invariant c.loop-i-test.true
+    (λ e. c.if-word_key-key.false (c.word_key.ensures ∙ rw c.word_or_zero.ensures (e ∙ sym c.key_of-key.ensures.0)))
+
 pub returns : goal.returns
-returns c =
-    c.find_key.ensures ∙ rw c.key_of.ensures.0 (place_key c.args.s (list_of c.args.list.now))
+returns c = place_end c.args.s c.args.list.now c.loop-i.i c.loop-i.invariant (omega arith) (omega arith)
