@@ -81,12 +81,14 @@ pub fn build_is_distinct_from(w: &mut Writer<'_>, input: &[u8], c: Column, l: Li
     requires { Few w.old.list.now × LiteralFits l × RoomFor (distinct_form c (value_of input.now l)) w.old }
     ensures { WroteBy (distinct_form c (value_of input.now l)) w.old w.new }
 {
-    if matches!(l, Literal::Null) {
-        return w.column_has_non_nulls_expr(c);
+    match l {
+        Literal::Null => w.column_has_non_nulls_expr(c),
+        _ => {
+            w.put_join(Joining::Or);
+            w.column_has_nulls_expr(c);
+            build_ne_statistics_expr(w, input, c, l);
+        }
     }
-    w.put_join(Joining::Or);
-    w.column_has_nulls_expr(c);
-    build_ne_statistics_expr(w, input, c, l);
 }
 
 // Writes the form of not distinct from.
@@ -94,10 +96,10 @@ pub fn build_is_not_distinct_from(w: &mut Writer<'_>, input: &[u8], c: Column, l
     requires { Few w.old.list.now × LiteralFits l × RoomFor (not_distinct_form c (value_of input.now l)) w.old }
     ensures { WroteBy (not_distinct_form c (value_of input.now l)) w.old w.new }
 {
-    if matches!(l, Literal::Null) {
-        return w.column_has_nulls_expr(c);
+    match l {
+        Literal::Null => w.column_has_nulls_expr(c),
+        _ => write_wrapped(w, input, c, Operator::NotDistinct, l),
     }
-    write_wrapped(w, input, c, Operator::NotDistinct, l);
 }
 
 // Writes a comparison's form: build_statistics_expr.

@@ -1,9 +1,7 @@
 -- A text as a literal over itself. Assumes nothing.
-use mathlib.Core.Path.{◌≡◌, ap}
-use mathlib.Core.List.{List}
-use Prim.Native.Nat.{ℕ, ◌^◌, ◌<◌}
-use lib.ListN.{length}
-use lib.Seq.{take-length}
+use Rattle.std.specs.Prelude.{◌≡◌, List, ℕ, ◌^◌, ◌<◌, length}
+use Rattle.std.proofs.Common.{ap}
+use Rattle.std.proofs.Math.Seq.{take-length}
 use Rattle.literals.specs.Literals.{text, value_of, LiteralFits}
 use Rattle.literals.specs.declared.Literal.{Literal}
 use Rattle.literals.specs.declared.Literal.TheVariants.{Text}
