@@ -1,44 +1,45 @@
--- What the machine's signed operations come to. Assumes nothing.
-use mathlib.Core.Path.{◌≡◌, refl, ap}
-use mathlib.Core.Bool.{true, false, true≢false}
-use Prim.Native.Nat.{ℕ, zero, suc, ◌-◌, ◌^◌}
-use native.Mathlib.Nat.{zero-add}
-use native.Mathlib.Omega.{arith}
-use lib.IntN.{ℤ, pos, negsuc, neg_ℤ, ◌-ℤ◌}
-use lib.Signed.{lt_z, mag}
-use mir.Syntax.{w64}
-use mir.Val.{SFits, of_z}
-use borrow.Author.Tests.{ltb-true, le-ltb}
-use Rattle.literals.specs.Signed.{bits_of, least_integer}
+-- The machine's reading of 64 bits, and its minus. Assumes nothing.
+use Rattle.std.proofs.Common.{◌≡◌, sym, ap, ◌∙◌, Bool, true, false, ℕ, zero, suc, ◌-◌, ◌^◌, ◌<◌, ltb, ltb-true, ltb-false, arith, ℤ, pos, negsuc, neg_ℤ, ◌-ℤ◌, w64, FitsSigned, refl, Some, None}
+use Rattle.std.specs.Int.{cast_signed, cast_unsigned}
+use Rattle.std.proofs.Math.Facts.{to_z-neg}
+use Rattle.std.proofs.Math.IntN.{+ℤ_idl}
+use Rattle.std.proofs.lemmas.Int.{to_z-of_z, to_z_pos}
+use Rattle.literals.specs.Signed.{signed, signed_low, signed_high, least_integer, negated, negated_least, negated_to}
 
--- -1 - k
-pub minus : (k : ℕ) → negsuc 0 -ℤ pos k ≡ negsuc k
-minus zero = refl
-minus (suc k) = ap (λ (n : ℕ). negsuc (suc n)) (zero-add k)
+-- 64 bits in two's complement
+pub signed_is : (n : ℕ) → n < 2 ^ 64 → cast_signed w64 n ≡ signed n
+signed_is n h = go (ltb n (2 ^ 63)) refl
+  where
+    go : (t : Bool) → ltb n (2 ^ 63) ≡ t → cast_signed w64 n ≡ signed n
+    go true e =
+        let l = ltb-true n (2 ^ 63) e in
+        to_z_pos w64 n l ∙ sym (signed_low n l)
+    go false e =
+        let g = ltb-false n (2 ^ 63) e in
+        let k : ℕ = 2 ^ 64 - 1 - n in
+        let m : n ≡ 2 ^ 64 - suc k = omega arith in
+        ap (cast_signed w64) m ∙ to_z-neg w64 k (omega arith) ∙ sym (signed_high n g)
 
--- minus an integer of 64 bits but the least is one
-pub neg_fits : (z : ℤ) → SFits w64 z → (z ≡ least_integer → ⊥) → SFits w64 (neg_ℤ z)
+-- minus an integer of 64 bits but the least has 64 bits
+neg_fits : (z : ℤ) → FitsSigned w64 z → (z ≡ least_integer → ⊥) → FitsSigned w64 (neg_ℤ z)
 neg_fits (pos zero) f h = f
 neg_fits (pos (suc n)) f h = record { sfits = omega (arith, f.sfits) }
 neg_fits (negsuc n) f h =
     let g : n ≡ 2 ^ 63 - 1 → ⊥ = λ e. h (ap negsuc e) in
     record { sfits = omega arith }
 
--- the machine's bits of an integer are 2 ^ 63 where it is the least
-pub bits_least : (z : ℤ) → SFits w64 z → of_z w64 z ≡ 2 ^ 63 → z ≡ least_integer
+-- the least is the one whose bits are 2 ^ 63
+bits_least : (z : ℤ) → FitsSigned w64 z → cast_unsigned w64 z ≡ 2 ^ 63 → z ≡ least_integer
 bits_least (pos n) f e = absurd (omega arith)
 bits_least (negsuc n) f e = ap negsuc (omega arith)
 
--- -1 - z of a negative z
-pub minus_neg : (z : ℤ) → lt_z z (pos 0) ≡ true → negsuc 0 -ℤ z ≡ pos (mag z)
-minus_neg (pos n) e = absurd (omega (arith, ltb-true n 0 e))
-minus_neg (negsuc n) e = rw (le-ltb (suc n) 1 (omega arith)) (ap pos (omega arith))
+module _ (z : ℤ) (f : FitsSigned w64 z) where
+  -- minus the least is left unhandled
+  pub minus_least : cast_unsigned w64 z ≡ 2 ^ 63 → None ≡ negated z
+  minus_least e = sym (ap negated (bits_least z f e) ∙ negated_least)
 
-pub bits_neg : (z : ℤ) → lt_z z (pos 0) ≡ true → bits_of z ≡ 2 ^ 64 - 1 - mag z
-bits_neg (pos n) e = absurd (omega (arith, ltb-true n 0 e))
-bits_neg (negsuc n) e = refl
-
--- an integer that is not negative
-pub not_neg : (z : ℤ) → lt_z z (pos 0) ≡ false → z ≡ pos (mag z)
-not_neg (pos n) e = refl
-not_neg (negsuc n) e = absurd (true≢false e)
+  -- and 0 - z is minus any other
+  pub minus_other : (cast_unsigned w64 z ≡ 2 ^ 63 → ⊥) → Some (cast_signed w64 (cast_unsigned w64 (pos 0 -ℤ cast_signed w64 (cast_unsigned w64 z)))) ≡ negated z
+  minus_other h =
+      let g : z ≡ least_integer → ⊥ = λ e. h (ap (cast_unsigned w64) e) in
+      rw (to_z-of_z w64 z f, +ℤ_idl, to_z-of_z w64 (neg_ℤ z) (neg_fits z f g)) (sym (negated_to z g))
