@@ -4,4 +4,4 @@ use Rattle.kleene.proofs.Truth.not.Goals as goal
 
 pub returns : goal.returns
 returns c =
-    rw c.place-i.ensures.0 (not_rule c.args.self)
+    rw c.place.ensures.0 (not_rule c.args.self)

@@ -4,4 +4,4 @@ use Rattle.kleene.proofs.Truth.or.Goals as goal
 
 pub returns : goal.returns
 returns c =
-    rw (c.place-i.ensures.0, c.place-j.ensures.0) (or_rule c.args.self c.args.b)
+    rw (c.place.ensures.0, c.place-2.ensures.0) (or_rule c.args.self c.args.b)
