@@ -8,6 +8,8 @@ use native.Mathlib.Omega.{arith}
 use lib.ListN.{length, get_or, replicate, length-append, length-replicate}
 use lib.Seq.{length-sets}
 use borrow.Author.Tests.{eq-eqb, ne_eqb}
+use Rattle.std.specs.Prelude.{Option, Some, None, filter}
+use Rattle.std.specs.List.{range_with_len}
 use Rattle.words.specs.Word.{bytes_of}
 use Rattle.words.specs.Stores.{sets_then}
 use Rattle.operators.specs.declared.Operator.{Operator}
@@ -27,14 +29,16 @@ use Rattle.table.specs.Constants.{solid_open, form_solid}
 use Rattle.table.specs.Rewriting.{list_operator, list_joining, nested_table, list_table}
 use Rattle.table.specs.Nests.{nest, join_word, run_words, run_pool, nest_words, nest_pool, is_open, kept_if, opens, all_open, nest_of, list_fold, member_table, member_tables}
 use Rattle.table.proofs.Nests.{nested_folds}
-use Rattle.knowing.specs.Knowns.{list_within}
+use Rattle.knowing.specs.Knowns.{list_within, member_known}
 use Rattle.turning.specs.Turns.{Turns}
-use Rattle.turning.specs.declared.Turned.{Turned}
-use Rattle.turning.specs.declared.Turned.TheVariants.{Against, Unhandled}
+use Rattle.turning.specs.declared.Against.{Against}
+use Rattle.listing.specs.Listing.{list_of}
 use Rattle.writing.specs.declared.Spot.{Spot}
-use Rattle.writing.specs.Writing.{Wide, Room, Head, Wrote}
-use Rattle.writing.specs.WritingLaws.{spots, words_then, head_then, wide_head}
-use Rattle.members.specs.Members.{run_width, Rooms, Ran, open_at, one_of, has_form}
+use Rattle.writing.specs.declared.Writer.{Writer}
+use Rattle.writing.specs.Writing.{Wide, Room, Head, Wrote, WideFor, RoomFor, Keeps, HeadBy, WroteBy}
+use Rattle.writing.specs.WritingLaws.{spots, words_then}
+use Rattle.writing.specs.WriterLaws.{keeps_then, heads_by, wide_head_by}
+use Rattle.members.specs.Members.{run_width, Rooms, Ran, RoomsFor, RanBy, open_at, has_form}
 
 -- ---- words of joins
 
@@ -42,20 +46,24 @@ replicate_snoc : (n w : ℕ) → replicate n w ++ (w ∷ []) ≡ replicate (n + 
 replicate_snoc zero w = refl
 replicate_snoc (suc n) w = let e : suc n + 1 ≡ suc (n + 1) = omega arith in rw e (ap (λ l. w ∷ l) (replicate_snoc n w))
 
-pub joins_none : (s : Spot) (old : List ℕ) → Head [] s old old s
+pub joins_none : (w : Writer) → HeadBy [] w w
 unfolding bytes_of
-joins_none s old = record { answer = spots (sym (add-zero s.to)) refl; table = refl }
+joins_none w =
+    record {
+      head = record { answer = spots (sym (add-zero w.at.to)) refl; table = refl };
+      pool = refl;
+      keeps = record { table = refl; pool = refl; list = refl };
+    }
 
-pub joins_more : (i : ℕ) (j : Joining) (s t r : Spot) (old mid new : List ℕ) → Head (replicate i (join_word j)) s old mid t → Head (join_word j ∷ []) t mid new r
-    → Head (replicate (i + 1) (join_word j)) s old new r
-joins_more i j s t r old mid new h k =
-    let e = replicate_snoc i (join_word j) in
-    rw (← e) (head_then (replicate i (join_word j)) (join_word j ∷ []) s t r old mid new h k)
+pub joins_more : (i : ℕ) (j : Joining) (w a v : Writer) → HeadBy (replicate i (join_word j)) w a → HeadBy (join_word j ∷ []) a v
+    → HeadBy (replicate (i + 1) (join_word j)) w v
+joins_more i j w a v h k = rw (← replicate_snoc i (join_word j)) (heads_by (replicate i (join_word j)) (join_word j ∷ []) w a v h k)
 
-pub joins_room : (i k w : ℕ) (s t : Spot) (old mid : List ℕ) → i < k → Wide k s old → Head (replicate i w) s old mid t → Wide 1 t mid
-joins_room i k w s t old mid lt room h =
-    let e : length (replicate i w) ≡ i = length-replicate i w in
-    wide_head 1 (replicate i w) s t old mid (omega arith) h
+pub joins_room : (i k x : ℕ) (w a : Writer) → i < k → WideFor k w → HeadBy (replicate i x) w a → WideFor 1 a
+joins_room i k x w a lt room h =
+    let e : length (replicate i x) ≡ i = length-replicate i x in
+    let wide : WideFor (length (replicate i x) + 1) w = omega arith in
+    wide_head_by 1 (replicate i x) w a wide h
 
 -- ---- tables one after the other
 
@@ -96,22 +104,37 @@ ran_then list xs ys s t r old mid new pool pool₂ new_pool a b =
       pool = b'.pool ∙ rw (pool_append xs ys) (sets_then pool s.off (s.off + length (run_pool xs)) (run_pool xs) (run_pool ys) refl);
     }
 
-pub ran_none : (list : List Statistic) (s : Spot) (old pool : List ℕ) → Ran [] list s old old pool pool s
-unfolding bytes_of
-ran_none list s old pool = record { answer = spots (sym (add-zero s.to)) (sym (add-zero s.off)); table = refl; pool = refl }
-
-pub ran_one : (list : List Statistic) (x : Table) (s r : Spot) (old new pool new_pool : List ℕ) → Wrote x list s old new pool new_pool r
-    → Ran (x ∷ []) list s old new pool new_pool r
-ran_one list x s r old new pool new_pool w =
+ran_by_then : (xs ys : List Table) (w a v : Writer) → RanBy xs w a → RanBy ys a v → RanBy (xs ++ ys) w v
+ran_by_then xs ys w a v h k =
     record {
-      answer = w.answer ∙ rw (append-nil (pool_of x)) (spots (omega arith) refl);
-      table = w.table ∙ rw (append-nil (table_words list s.off x));
-      pool = w.pool ∙ rw (append-nil (pool_of x));
+      ran = ran_then (list_of w.list.now) xs ys w.at a.at v.at w.table.now a.table.now v.table.now w.pool.now a.pool.now v.pool.now h.ran (rw h.keeps.list at k.ran);
+      keeps = keeps_then w a v h.keeps k.keeps;
     }
 
-pub room_one : (x : Table) (s : Spot) (old pool : List ℕ) → Rooms (x ∷ []) s old pool → Room x s old pool
-room_one x s old pool h =
-    let w = h.words in
+pub ran_none : (w : Writer) → RanBy [] w w
+unfolding bytes_of
+ran_none w =
+    record {
+      ran = record { answer = spots (sym (add-zero w.at.to)) (sym (add-zero w.at.off)); table = refl; pool = refl };
+      keeps = record { table = refl; pool = refl; list = refl };
+    }
+
+pub ran_one : (x : Table) (w v : Writer) → WroteBy x w v → RanBy (x ∷ []) w v
+ran_one x w v h =
+    let p = h.wrote in
+    record {
+      ran =
+          record {
+            answer = p.answer ∙ rw (append-nil (pool_of x)) (spots (omega arith) refl);
+            table = p.table ∙ rw (append-nil (table_words (list_of w.list.now) w.at.off x));
+            pool = p.pool ∙ rw (append-nil (pool_of x));
+          };
+      keeps = h.keeps;
+    }
+
+pub room_one : (x : Table) (w : Writer) → RoomsFor (x ∷ []) w → RoomFor x w
+room_one x w h =
+    let a = h.words in
     let b = h.bytes in
     let k = h.small in
     let e : length (pool_of x ++ []) ≡ length (pool_of x) = ap length (append-nil (pool_of x)) in
@@ -136,40 +159,35 @@ rooms_next list xs ys s t old mid pool pool₂ h a =
 
 -- ---- writing that is under way
 
--- writing the rest from here is writing all from the start
-pub record Going (all : List Table) (list : List Statistic) (s : Spot) (old pool : List ℕ) (rest : List Table) (t : Spot) (mid mid_pool : List ℕ) : Type 0 where
-  pub room : Rooms rest t mid mid_pool
-  pub ends : (new new_pool : List ℕ) (r : Spot) → Ran rest list t mid new mid_pool new_pool r → Ran all list s old new pool new_pool r
+-- writing the rest from v on is writing all from w on
+pub record Going (all : List Table) (w : Writer) (rest : List Table) (v : Writer) : Type 0 where
+  pub room : RoomsFor rest v
+  pub keeps : Keeps w v
+  pub ends : (u : Writer) → RanBy rest v u → RanBy all w u
 
-pub going_start : (all rest : List Table) (list : List Statistic) (s : Spot) (old pool : List ℕ) → rest ≡ all → Rooms all s old pool
-    → Going all list s old pool rest s old pool
-going_start all rest list s old pool e h = rw e (record { room = h; ends = λ new new_pool r g. g })
+pub going_start : (all rest : List Table) (w : Writer) → rest ≡ all → RoomsFor all w → Going all w rest w
+going_start all rest w e h = rw e (record { room = h; keeps = record { table = refl; pool = refl; list = refl }; ends = λ u g. g })
 
-module _ (all : List Table) (list : List Statistic) (s : Spot) (old pool : List ℕ) (rest xs ys : List Table) (t : Spot) (mid mid_pool : List ℕ)
-    (e : rest ≡ xs ++ ys) (h : Going all list s old pool rest t mid mid_pool) where
-  pub going_room : Rooms xs t mid mid_pool
-  going_room = rooms_first xs ys t mid mid_pool (rw e at h.room)
+module _ (all : List Table) (w : Writer) (rest xs ys : List Table) (v : Writer) (e : rest ≡ xs ++ ys) (h : Going all w rest v) where
+  pub going_room : RoomsFor xs v
+  going_room = rooms_first xs ys v.at v.table.now v.pool.now (rw e at h.room)
 
-  pub going_next : (u : Spot) (new new_pool : List ℕ) → Ran xs list t mid new mid_pool new_pool u → Going all list s old pool ys u new new_pool
-  going_next u new new_pool g =
+  pub going_next : (u : Writer) → RanBy xs v u → Going all w ys u
+  going_next u g =
       record {
-        room = rooms_next list xs ys t u mid new mid_pool new_pool (rw e at h.room) g;
-        ends = λ last last_pool r k. h.ends last last_pool r (rw e (ran_then list xs ys t u r mid new last mid_pool new_pool last_pool g k));
+        room = rooms_next (list_of v.list.now) xs ys v.at u.at v.table.now u.table.now v.pool.now u.pool.now (rw e at h.room) g.ran;
+        keeps = keeps_then w v u h.keeps g.keeps;
+        ends = λ r k. h.ends r (rw e (ran_by_then xs ys v u r g k));
       }
 
-pub going_end : (all : List Table) (list : List Statistic) (s : Spot) (old pool : List ℕ) (rest : List Table) (t : Spot) (mid mid_pool : List ℕ) → rest ≡ []
-    → Going all list s old pool rest t mid mid_pool → Ran all list s old mid pool mid_pool t
-going_end all list s old pool rest t mid mid_pool e h = h.ends mid mid_pool t (rw e (ran_none list t mid mid_pool))
+pub going_end : (all : List Table) (w : Writer) (rest : List Table) (v : Writer) → rest ≡ [] → Going all w rest v → RanBy all w v
+going_end all w rest v e h = h.ends v (rw e (ran_none v))
 
 -- ---- the members of a list
 
 kept_append : (b : Bool) (t : Table) (ts : List Table) → kept_if b t ts ≡ kept_if b t [] ++ ts
 kept_append true t ts = refl
 kept_append false t ts = refl
-
-kept_length : (b : Bool) (t : Table) → length (kept_if b t []) ≡ one_of b
-kept_length true t = refl
-kept_length false t = refl
 
 module _ (schema pool ws : List ℕ) (b : Bool) (c : Column) (flips k at : ℕ) where
   -- the members from the i-th on that stay
@@ -193,27 +211,35 @@ module _ (schema pool ws : List ℕ) (b : Bool) (c : Column) (flips k at : ℕ) 
   pub rest_all : rest_open 0 ≡ open_at schema pool ws b c flips k at
   rest_all = let e : k - 0 ≡ k = omega arith in let f : at + 0 ≡ at = omega arith in rw (e, f)
 
-  -- the count so far, and those left
-  pub count_next : (m i : ℕ) → i < k → length (open_at schema pool ws b c flips k at) ≡ m + length (rest_open i)
-      → length (open_at schema pool ws b c flips k at) ≡ m + one_of (is_open (known (member i))) + length (rest_open (i + 1))
-  count_next m i h e =
-      let f : length (rest_open i) ≡ one_of (is_open (known (member i))) + length (rest_open (i + 1)) =
-      rw (rest_next i h, length-append, kept_length (is_open (known (member i))) (member i)) in
-      omega arith
+-- those that stay, counted by their places
+module _ (schema pool ws : List ℕ) (b : Bool) (c : Column) (flips at : ℕ) where
+  abbrev pub stays_at : ℕ → Bool
+  stays_at i = is_open (member_known schema pool ws b c flips (at + i))
 
-  pub count_end : (m i : ℕ) → k ≤ i → length (open_at schema pool ws b c flips k at) ≡ m + length (rest_open i) → m ≡ length (open_at schema pool ws b c flips k at)
-  count_end m i h e = let f : length (rest_open i) ≡ 0 = rw (rest_none i h) in omega arith
+  pub count_stays : (n i : ℕ) → length (filter stays_at (range_with_len i n)) ≡ length (open_at schema pool ws b c flips n (at + i))
+  unfolding open_at values_at
+  count_stays zero i = refl
+  count_stays (suc n) i =
+      let e : at + i + 1 ≡ at + (i + 1) = omega arith in
+      rw e (go (stays_at i) (count_stays n (i + 1)))
+    where
+      go : (o : Bool) → length (filter stays_at (range_with_len (i + 1) n)) ≡ length (open_at schema pool ws b c flips n (at + (i + 1)))
+          → length (cond o (i ∷ filter stays_at (range_with_len (i + 1) n)) (filter stays_at (range_with_len (i + 1) n)))
+          ≡ length (kept_if o (member_table schema b c flips (value_at pool (get_or ws (at + i) 0))) (open_at schema pool ws b c flips n (at + (i + 1))))
+      go true h = ap suc h
+      go false h = h
 
 -- ---- one member
 
-module _ (schema pool : List ℕ) (b : Bool) (c : Column) (flips : ℕ) (l : Literal) (r : Turned)
+module _ (schema pool : List ℕ) (b : Bool) (c : Column) (flips : ℕ) (l : Literal) (r : Option Against)
     (t : Turns (turned (type_in schema c.0) (list_operator b) flips false) l r) where
-  pub against_opens : (p : Operator) (x : Literal) → r ≡ Against p x → opens (member_table schema b c flips (value_of pool l) ∷ []) ≡ comparison_form c p (value_of pool x) ∷ []
-  against_opens p x q =
+  pub against_opens : (a : Against) → r ≡ Some a
+      → opens (member_table schema b c flips (value_of pool l) ∷ []) ≡ comparison_form c a.operator (value_of pool a.literal) ∷ []
+  against_opens a q =
       let h = t.value pool in
-      rw (← h, q, solid_open (comparison_form c p (value_of pool x)) (form_solid c p (value_of pool x)))
+      rw (← h, q, solid_open (comparison_form c a.operator (value_of pool a.literal)) (form_solid c a.operator (value_of pool a.literal)))
 
-  pub unhandled_opens : r ≡ Unhandled → opens (member_table schema b c flips (value_of pool l) ∷ []) ≡ []
+  pub unhandled_opens : r ≡ None → opens (member_table schema b c flips (value_of pool l) ∷ []) ≡ []
   unhandled_opens q = let h = t.value pool in rw (← h, q)
 
 -- ---- the nest: joins, then the members that stay
@@ -222,12 +248,12 @@ nest_width : (j : Joining) (t : Table) (us : List Table) → table_width (nest j
 nest_width j t [] = omega arith
 nest_width j t (u ∷ us) = let h = nest_width j (both j t u) us in omega arith
 
-pub nest_wide : (j : Joining) (s : Spot) (old pool : List ℕ) (m : ℕ) (ts : List Table) → m ≡ length ts → 0 < m → Room (nest_of j ts) s old pool → Wide (m - 1) s old
+nest_wide : (j : Joining) (s : Spot) (old pool : List ℕ) (m : ℕ) (ts : List Table) → m ≡ length ts → 0 < m → Room (nest_of j ts) s old pool → Wide (m - 1) s old
 nest_wide j s old pool m [] e h room = absurd (omega arith)
 nest_wide j s old pool m (x ∷ us) e h room = let w = room.words in let n = nest_width j x us in omega arith
 
 module _ (j : Joining) (s t : Spot) (old mid pool : List ℕ) where
-  pub nest_rooms : (m : ℕ) (ts : List Table) → m ≡ length ts → 0 < m → Room (nest_of j ts) s old pool → Head (replicate (m - 1) (join_word j)) s old mid t → Rooms ts t mid pool
+  nest_rooms : (m : ℕ) (ts : List Table) → m ≡ length ts → 0 < m → Room (nest_of j ts) s old pool → Head (replicate (m - 1) (join_word j)) s old mid t → Rooms ts t mid pool
   nest_rooms m [] e h room k = absurd (omega arith)
   nest_rooms m (x ∷ us) e h room k =
       let w = room.words in
@@ -239,7 +265,7 @@ module _ (j : Joining) (s t : Spot) (old mid pool : List ℕ) where
       let q = rw (nest_pool j x us) at room.small in
       rw (k'.answer, k'.table) (record { words = rw length-sets (omega arith); bytes = p; small = q })
 
-  pub nest_wrote : (list : List Statistic) (r : Spot) (new new_pool : List ℕ) (m : ℕ) (ts : List Table) → m ≡ length ts → 0 < m
+  nest_wrote : (list : List Statistic) (r : Spot) (new new_pool : List ℕ) (m : ℕ) (ts : List Table) → m ≡ length ts → 0 < m
       → Head (replicate (m - 1) (join_word j)) s old mid t → Ran ts list t mid new pool new_pool r → Wrote (nest_of j ts) list s old new pool new_pool r
   nest_wrote list r new new_pool m [] e h k a = absurd (omega arith)
   nest_wrote list r new new_pool m (x ∷ us) e h k a =
@@ -254,6 +280,21 @@ module _ (j : Joining) (s t : Spot) (old mid pool : List ℕ) where
             (words_then old s.to (s.to + length (replicate (length us) (join_word j))) (replicate (length us) (join_word j)) (run_words list s.off (x ∷ us)) refl);
         pool = a'.pool ∙ rw (nest_pool j x us);
       }
+
+module _ (j : Joining) (m : ℕ) (ts : List Table) (e : m ≡ length ts) (h : 0 < m) (w : Writer) where
+  pub nest_wide_by : RoomFor (nest_of j ts) w → WideFor (m - 1) w
+  nest_wide_by room = nest_wide j w.at w.table.now w.pool.now m ts e h room
+
+  module _ (a : Writer) (k : HeadBy (replicate (m - 1) (join_word j)) w a) where
+    pub nest_rooms_by : RoomFor (nest_of j ts) w → RoomsFor ts a
+    nest_rooms_by room = rw k.pool (nest_rooms j w.at a.at w.table.now a.table.now w.pool.now m ts e h room k.head)
+
+    pub nest_by : (v : Writer) → RanBy ts a v → WroteBy (nest_of j ts) w v
+    nest_by v g =
+        record {
+          wrote = nest_wrote j w.at a.at w.table.now a.table.now w.pool.now (list_of w.list.now) v.at v.table.now v.pool.now m ts e h k.head (rw (k.pool, k.keeps.list) at g.ran);
+          keeps = keeps_then w a v k.keeps g.keeps;
+        }
 
 -- ---- a list's form
 
