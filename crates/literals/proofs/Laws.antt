@@ -1,9 +1,10 @@
--- The machine's reading of 64 bits, and its minus. Assumes nothing.
-use Rattle.std.proofs.Common.{◌≡◌, sym, ap, ◌∙◌, Bool, true, false, ℕ, zero, suc, ◌-◌, ◌^◌, ◌<◌, ltb, ltb-true, ltb-false, arith, ℤ, pos, negsuc, neg_ℤ, ◌-ℤ◌, w64, FitsSigned, refl, Some, None}
+-- The machine's reading of 64 bits, and its minus; what suits asks of each type. Assumes nothing.
+use Rattle.std.proofs.Common.{◌≡◌, sym, ap, ◌∙◌, Bool, true, false, ℕ, zero, suc, ◌-◌, ◌^◌, ◌<◌, ltb, ltb-true, ltb-false, arith, ℤ, pos, negsuc, neg_ℤ, ◌-ℤ◌, w64, FitsSigned, refl, Some, None, List, eqb, leb, ◌&&◌}
 use Rattle.std.specs.Int.{cast_signed, cast_unsigned}
 use Rattle.std.proofs.Math.Facts.{to_z-neg}
 use Rattle.std.proofs.Math.IntN.{+ℤ_idl}
 use Rattle.std.proofs.lemmas.Int.{to_z-of_z, to_z_pos}
+use Rattle.literals.specs.Literals.{type_of, length_of, offset_of, null_type, integer_type, text_type, truth_type, integer_bytes, inside, suits}
 use Rattle.literals.specs.Signed.{signed, signed_low, signed_high, least_integer, negated, negated_least, negated_to}
 
 -- 64 bits in two's complement
@@ -43,3 +44,21 @@ module _ (z : ℤ) (f : FitsSigned w64 z) where
   minus_other h =
       let g : z ≡ least_integer → ⊥ = λ e. h (ap (cast_unsigned w64) e) in
       rw (to_z-of_z w64 z f, +ℤ_idl, to_z-of_z w64 (neg_ℤ z) (neg_fits z f g)) (sym (negated_to z g))
+
+-- the type picks its test
+module _ (pool : List ℕ) (type w : ℕ) where
+  pub suits_null : type_of w ≡ null_type → true ≡ suits pool type w
+  unfolding suits
+  suits_null e = rw e
+
+  pub suits_integer : type_of w ≡ integer_type → suits pool type w ≡ (eqb type integer_type && (eqb (length_of w) integer_bytes && inside pool w))
+  unfolding suits
+  suits_integer e = rw e
+
+  pub suits_text : type_of w ≡ text_type → suits pool type w ≡ (eqb type text_type && inside pool w)
+  unfolding suits
+  suits_text e = rw e
+
+  pub suits_truth : type_of w ≡ truth_type → suits pool type w ≡ (eqb type truth_type && (eqb (length_of w) 0 && leb (offset_of w) 1))
+  unfolding suits
+  suits_truth e = rw e
