@@ -104,6 +104,7 @@ fn is_inside(pool: &[u8], w: u64) -> bool
 }
 
 // Whether a literal word is null, or of the type asked, of that type's length or truth value, and inside the pool.
+#[tactic(auto, using(crate::proofs::Laws::suits_null, crate::proofs::Laws::suits_integer, crate::proofs::Laws::suits_text, crate::proofs::Laws::suits_truth))]
 pub fn suits(pool: &[u8], kind: u8, w: u64) -> bool
     ensures { result ≡ suits pool.now kind w }
 {
