@@ -1,21 +1,15 @@
--- What is left of the answers is up to two or not. Assumes nothing.
-use native.Mathlib.Omega.{arith}
-use mathlib.Core.Path.{refl, sym, ◌∙◌}
-use Rattle.cells.specs.Grids.{two_end, two_faulty, two_next}
+-- All answers. Assumes nothing.
+use Prim.Native.Nat.{ℕ}
+use Rattle.std.specs.Prelude.{leb}
+use Rattle.std.proofs.Common.{◌∙◌, rules}
+use borrow.Author.Tests.{tests}
+use Rattle.std.proofs.lemmas.Iterator.{YieldsList-from_slice}
+use Rattle.std.proofs.lemmas.Iterator.Search.{all_from_yields_List}
+use Rattle.cells.specs.Grids.{two_all}
 use Rattle.cells.proofs.up_to_two.Goals as goal
-
-pub loop-i-init : goal.loop-i-init
-loop-i-init c =
-    refl
-
-pub returns-then-answers-i-gt2 : goal.returns-then-answers-i-gt2
-returns-then-answers-i-gt2 c =
-    sym (c.loop-i.invariant ∙ two_faulty _ _ c.loop-i-test.true (omega arith))
-
-pub loop-i-preserved : goal.loop-i-preserved
-loop-i-preserved c =
-    c.loop-i.invariant ∙ two_next _ _ c.loop-i-test.true (omega arith)
 
 pub returns : goal.returns
 returns c =
-    sym (c.loop-i.invariant ∙ two_end _ _ c.loop-i-test.false)
+    let a = c.args in
+    all_from_yields_List (λ (x : ℕ). leb x 2) _ _ c.all.result c.all.ensures.ran (YieldsList-from_slice a.answers.now cc) (λ x b q k. search (rules, tests))
+    ∙ two_all a.answers.now
