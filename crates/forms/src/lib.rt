@@ -1,12 +1,12 @@
 // The forms of comparisons, written into a lent table and a lent literal pool.
 #![tactic(auto)]
 
-ghost use Rattle.literals.specs.Literals.{value_of, LiteralFits};
+ghost use Rattle.literals.specs.Literals.{value_of};
 ghost use Rattle.table.specs.Comparisons.{equal_form, unequal_form, wrapped, distinct_form, not_distinct_form, comparison_form, turned_form};
 ghost use Rattle.listing.specs.Listing.{Few};
 ghost use Rattle.turning.specs.Turns.{turned_of, TurnedFits};
 ghost use Rattle.writing.specs.Writing.{RoomFor, WroteBy};
-ghost use Rattle.forms.specs.Forms.{bounds_form, bare_form};
+ghost use Rattle.forms.specs.Forms.{FormFits, bounds_form, bare_form};
 
 use kleene::Joining;
 use literals::Literal;
@@ -17,8 +17,9 @@ use turning::Against;
 use writing::Writer;
 
 // Writes least against a literal and the literal against greatest, joined.
+// (Here and below, pool, column and literal stay three parameters: a struct of them makes every clause longer.)
 fn write_bounds(w: &mut Writer<'_>, input: &[u8], j: Joining, o: Operator, c: Column, l: Literal)
-    requires { Few w.old.list.now × LiteralFits l × RoomFor (bounds_form j o c (value_of input.now l)) w.old }
+    requires { FormFits l (bounds_form j o c (value_of input.now l)) w.old }
     ensures { WroteBy (bounds_form j o c (value_of input.now l)) w.old w.new }
 {
     w.put_join(j);
@@ -28,7 +29,7 @@ fn write_bounds(w: &mut Writer<'_>, input: &[u8], j: Joining, o: Operator, c: Co
 
 // Writes least ≤ literal AND literal ≤ greatest.
 pub fn build_eq_statistics_expr(w: &mut Writer<'_>, input: &[u8], c: Column, l: Literal)
-    requires { Few w.old.list.now × LiteralFits l × RoomFor (equal_form c (value_of input.now l)) w.old }
+    requires { FormFits l (equal_form c (value_of input.now l)) w.old }
     ensures { WroteBy (equal_form c (value_of input.now l)) w.old w.new }
 {
     write_bounds(w, input, Joining::And, Operator::AtMost, c, l);
@@ -36,7 +37,7 @@ pub fn build_eq_statistics_expr(w: &mut Writer<'_>, input: &[u8], c: Column, l: 
 
 // Writes least ≠ literal OR literal ≠ greatest.
 pub fn build_ne_statistics_expr(w: &mut Writer<'_>, input: &[u8], c: Column, l: Literal)
-    requires { Few w.old.list.now × LiteralFits l × RoomFor (unequal_form c (value_of input.now l)) w.old }
+    requires { FormFits l (unequal_form c (value_of input.now l)) w.old }
     ensures { WroteBy (unequal_form c (value_of input.now l)) w.old w.new }
 {
     write_bounds(w, input, Joining::Or, Operator::NotEqual, c, l);
@@ -44,32 +45,24 @@ pub fn build_ne_statistics_expr(w: &mut Writer<'_>, input: &[u8], c: Column, l: 
 
 // Writes what an operator asks of least and greatest.
 fn write_bare(w: &mut Writer<'_>, input: &[u8], c: Column, o: Operator, l: Literal)
-    requires { Few w.old.list.now × LiteralFits l × RoomFor (bare_form c o (value_of input.now l)) w.old }
+    requires { FormFits l (bare_form c o (value_of input.now l)) w.old }
     ensures { WroteBy (bare_form c o (value_of input.now l)) w.old w.new }
 {
     match o {
         Operator::Equal | Operator::NotDistinct => build_eq_statistics_expr(w, input, c, l),
         Operator::NotEqual | Operator::Distinct => build_ne_statistics_expr(w, input, c, l),
-        Operator::Below | Operator::AtMost => w.write_against(
-            input,
-            o,
-            Statistic::Least(c),
-            false,
-            l,
-        ),
-        Operator::Above | Operator::AtLeast => w.write_against(
-            input,
-            o,
-            Statistic::Greatest(c),
-            false,
-            l,
-        ),
+        Operator::Below | Operator::AtMost => {
+            w.write_against(input, o, Statistic::Least(c), false, l);
+        }
+        Operator::Above | Operator::AtLeast => {
+            w.write_against(input, o, Statistic::Greatest(c), false, l);
+        }
     }
 }
 
 // Writes the same, wrapped in the blanks test.
 fn write_wrapped(w: &mut Writer<'_>, input: &[u8], c: Column, o: Operator, l: Literal)
-    requires { Few w.old.list.now × LiteralFits l × RoomFor (wrapped c (bare_form c o (value_of input.now l))) w.old }
+    requires { FormFits l (wrapped c (bare_form c o (value_of input.now l))) w.old }
     ensures { WroteBy (wrapped c (bare_form c o (value_of input.now l))) w.old w.new }
 {
     w.wrap_null_count_check_expr(c);
@@ -78,7 +71,7 @@ fn write_wrapped(w: &mut Writer<'_>, input: &[u8], c: Column, o: Operator, l: Li
 
 // Writes the form of distinct from.
 pub fn build_is_distinct_from(w: &mut Writer<'_>, input: &[u8], c: Column, l: Literal)
-    requires { Few w.old.list.now × LiteralFits l × RoomFor (distinct_form c (value_of input.now l)) w.old }
+    requires { FormFits l (distinct_form c (value_of input.now l)) w.old }
     ensures { WroteBy (distinct_form c (value_of input.now l)) w.old w.new }
 {
     match l {
@@ -93,7 +86,7 @@ pub fn build_is_distinct_from(w: &mut Writer<'_>, input: &[u8], c: Column, l: Li
 
 // Writes the form of not distinct from.
 pub fn build_is_not_distinct_from(w: &mut Writer<'_>, input: &[u8], c: Column, l: Literal)
-    requires { Few w.old.list.now × LiteralFits l × RoomFor (not_distinct_form c (value_of input.now l)) w.old }
+    requires { FormFits l (not_distinct_form c (value_of input.now l)) w.old }
     ensures { WroteBy (not_distinct_form c (value_of input.now l)) w.old w.new }
 {
     match l {
@@ -104,7 +97,7 @@ pub fn build_is_not_distinct_from(w: &mut Writer<'_>, input: &[u8], c: Column, l
 
 // Writes a comparison's form: build_statistics_expr.
 pub fn write_comparison(w: &mut Writer<'_>, input: &[u8], c: Column, o: Operator, l: Literal)
-    requires { Few w.old.list.now × LiteralFits l × RoomFor (comparison_form c o (value_of input.now l)) w.old }
+    requires { FormFits l (comparison_form c o (value_of input.now l)) w.old }
     ensures { WroteBy (comparison_form c o (value_of input.now l)) w.old w.new }
 {
     match o {

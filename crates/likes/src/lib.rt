@@ -28,21 +28,11 @@ fn build_like_match(w: &mut Writer<'_>, c: Column, prefix: &[u8], upper: &[u8])
     requires { Few w.old.list.now × (length prefix.now < 2 ^ 14) × (length upper.now < 2 ^ 14) × RoomFor (like_form c prefix.now upper.now) w.old }
     ensures { WroteBy (like_form c prefix.now upper.now) w.old w.new }
 {
+    let u = whole(upper);
+    let p = whole(prefix);
     w.put_join(Joining::And);
-    w.write_against(
-        upper,
-        Operator::AtMost,
-        Statistic::Least(c),
-        false,
-        whole(upper),
-    );
-    w.write_against(
-        prefix,
-        Operator::AtMost,
-        Statistic::Greatest(c),
-        true,
-        whole(prefix),
-    );
+    w.write_against(upper, Operator::AtMost, Statistic::Least(c), false, u);
+    w.write_against(prefix, Operator::AtMost, Statistic::Greatest(c), true, p);
 }
 
 // Writes the form of LIKE with a prefix and an upper bound.

@@ -1,12 +1,8 @@
 -- What local buffers of 1,024 and 1,025 bytes hold once a pattern's prefix and upper bound are in them. Assumes nothing.
-use mathlib.Core.Path.{◌≡◌, sym, ap, ◌∙◌}
-use mathlib.Core.Bool.{false}
-use mathlib.Core.List.{List}
-use mathlib.Core.Option.{some}
-use Prim.Native.Nat.{ℕ, ◌≤◌}
-use native.Mathlib.Omega.{arith}
-use lib.ListN.{length, take}
-use lib.Seq.{length-sets}
+use Rattle.std.specs.Prelude.{◌≡◌, false, List, ℕ, ◌≤◌, length, take, Some, None}
+use Rattle.std.proofs.Common.{ap, ◌∙◌, arith}
+use Rattle.std.proofs.Math.Option.{some}
+use Rattle.std.proofs.Math.Seq.{length-sets}
 use Rattle.limits.specs.Limits.{max_literal_bytes}
 use Rattle.words.specs.Stores.{written, sets_front, take_written, length_written}
 use Rattle.text.specs.Utf8.{Utf8}
@@ -14,8 +10,6 @@ use Rattle.text.specs.Pattern.{prefix_of}
 use Rattle.text.specs.Upper.{upper_of, prefix_length}
 use Rattle.text.proofs.Upper.{upper_length}
 use Rattle.text.specs.Wrote.{Wrote}
-use Rattle.increment.specs.declared.End.{End}
-use Rattle.increment.specs.declared.End.TheVariants.{Until, Absent}
 use Rattle.increment.specs.Outcome.{Outcome, end_of, until_some, absent_none}
 use Rattle.table.specs.Tables.{unhandled}
 use Rattle.table.specs.Comparisons.{wrapped, like_form, bounded_form}
@@ -36,10 +30,10 @@ module _ (p old new : List ℕ) (n : ℕ) (k : length p ≤ max_literal_bytes) (
   pub prefix_count : n ≡ length (take n new)
   prefix_count = rw prefix_is prefix_end
 
-module _ (p old new : List ℕ) (n : ℕ) (r : End) (v : Utf8 p) (k : length p ≤ max_literal_bytes) (h : length old ≡ 1025)
-    (o : Outcome (upper_of p) (written (prefix_of false p) old) new r) (q : r ≡ Until n) where
+module _ (p old new : List ℕ) (n : ℕ) (v : Utf8 p) (k : length p ≤ max_literal_bytes) (h : length old ≡ 1025)
+    (o : Outcome (upper_of p) (written (prefix_of false p) old) new (Some n)) where
   pub upper_some : (u : List ℕ) × (upper_of p ≡ some u) × (n ≡ length u)
-  upper_some = until_some (upper_of p) n (sym q ∙ o.end)
+  upper_some = until_some (upper_of p) n o.end
 
   pub upper_new : new ≡ written upper_some.0 (written (prefix_of false p) old)
   upper_new = o.out ∙ rw upper_some.1
@@ -69,5 +63,5 @@ module _ (p old new : List ℕ) (n : ℕ) (r : End) (v : Utf8 p) (k : length p �
   pub bounded_is : (c : Column) → bounded_form c (prefix_of false p) (upper_of p) ≡ wrapped c (like_form c (prefix_of false p) (take n new))
   bounded_is c = rw (upper_some.1, upper_is)
 
-pub bounded_none : (c : Column) (p : List ℕ) (r : End) → r ≡ end_of (upper_of p) → r ≡ Absent → bounded_form c (prefix_of false p) (upper_of p) ≡ unhandled
-bounded_none c p r e q = rw (absent_none (upper_of p) (sym q ∙ e))
+pub bounded_none : (c : Column) (p : List ℕ) → None ≡ end_of (upper_of p) → bounded_form c (prefix_of false p) (upper_of p) ≡ unhandled
+bounded_none c p e = rw (absent_none (upper_of p) e)
