@@ -174,3 +174,31 @@ none_is pool w below type i t b = go (eqb w 0) refl
     go : (x : Bool) → eqb w 0 ≡ x → fitting pool type w ≡ x
     go true e = fitting_none pool type w (eqb-true w 0 e)
     go false e = none_fits pool w below (eqb-false w 0 e) type i t b
+
+-- ---- each type's test, whole
+
+module _ (pool : List ℕ) (w : ℕ) (below : w < 2 ^ 64) where
+  pub integer_test : fitting pool integer_type w ≡ (eqb w 0 || (eqb (w / 2 ^ 24) 275012124672 && leb (offset_of w + 8) (length pool)))
+  integer_test = go (eqb w 0) (eqb (w / 2 ^ 24) 275012124672) refl refl
+    where
+      go : (x y : Bool) → eqb w 0 ≡ x → eqb (w / 2 ^ 24) 275012124672 ≡ y → fitting pool integer_type w ≡ (x || (y && leb (offset_of w + 8) (length pool)))
+      go true y e f = fitting_none pool integer_type w (eqb-true w 0 e)
+      go false true e f = integer_fits pool w below (eqb-false w 0 e) (eqb-true _ _ f)
+      go false false e f = integer_unfit pool w below (eqb-false w 0 e) (eqb-false _ _ f)
+
+  pub text_test : fitting pool text_type w ≡ (eqb w 0 || (eqb (w / 2 ^ 62) 2 && (eqb (zero_of w) 0 && leb (offset_of w + length_of w) (length pool))))
+  text_test = go (eqb w 0) (eqb (w / 2 ^ 62) 2) (eqb (zero_of w) 0) refl refl refl
+    where
+      go : (x y z : Bool) → eqb w 0 ≡ x → eqb (w / 2 ^ 62) 2 ≡ y → eqb (zero_of w) 0 ≡ z
+          → fitting pool text_type w ≡ (x || (y && (z && leb (offset_of w + length_of w) (length pool))))
+      go true y z e f g = fitting_none pool text_type w (eqb-true w 0 e)
+      go false true true e f g = text_fits pool w below (eqb-false w 0 e) (eqb-true _ _ f) (eqb-true _ _ g)
+      go false true false e f g = field_unfit pool w below (eqb-false w 0 e) text_type (eqb-false _ _ g)
+      go false false z e f g = text_unfit pool w below (eqb-false w 0 e) (eqb-false _ _ f)
+
+  pub truth_test : fitting pool truth_type w ≡ (eqb w 0 || eqb (w / 2) 6917529027641081856)
+  truth_test = go (eqb w 0) refl
+    where
+      go : (x : Bool) → eqb w 0 ≡ x → fitting pool truth_type w ≡ (x || eqb (w / 2) 6917529027641081856)
+      go true e = fitting_none pool truth_type w (eqb-true w 0 e)
+      go false e = truth_is pool w below (eqb-false w 0 e)

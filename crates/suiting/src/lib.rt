@@ -8,6 +8,7 @@ ghost use Rattle.suiting.specs.Suiting.{fitting};
 use literals::Literal;
 
 // Null, or an integer's word inside the pool: its type, length and zero field are tested at once.
+#[tactic(auto, using(crate::specs::Suiting::integer_test))]
 pub fn integer_suits(pool: &[u8], w: u64) -> bool
     ensures { result ≡ fitting pool.now integer_type w }
 {
@@ -15,6 +16,7 @@ pub fn integer_suits(pool: &[u8], w: u64) -> bool
 }
 
 // Null, or a text's word inside the pool.
+#[tactic(auto, using(crate::specs::Suiting::text_test))]
 fn text_suits(pool: &[u8], w: u64) -> bool
     ensures { result ≡ fitting pool.now text_type w }
 {
@@ -25,6 +27,7 @@ fn text_suits(pool: &[u8], w: u64) -> bool
 }
 
 // Null, or a truth value's word: false or true.
+#[tactic(auto, using(crate::specs::Suiting::truth_test))]
 fn truth_suits(pool: &[u8], w: u64) -> bool
     ensures { result ≡ fitting pool.now truth_type w }
 {
@@ -32,6 +35,7 @@ fn truth_suits(pool: &[u8], w: u64) -> bool
 }
 
 // Null, or a word of the type asked, of that type's length or truth value, inside the pool; no unnamed field set.
+#[tactic(auto, using(crate::specs::Suiting::none_is))]
 pub fn word_suits(pool: &[u8], kind: u8, w: u64) -> bool
     ensures { result ≡ fitting pool.now kind w }
 {
