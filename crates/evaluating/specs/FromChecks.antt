@@ -20,6 +20,9 @@ use Rattle.literals.specs.Literals.{literal_of}
 use Rattle.literals.specs.declared.Literal.{Literal}
 use Rattle.predicate.specs.Nodes.{or_equal}
 use Rattle.predicate.specs.Checking.{unused_zero}
+use Rattle.table.specs.Encoding.{kind_named}
+use Rattle.table.specs.declared.Kind.{Kind}
+use Rattle.table.specs.declared.Kind.TheVariants as Kinds
 use Rattle.statistics.specs.Statistics.{statistic_layout, column_field, type_field, zero_field, type_of, column_in, statistic_word, statistic_of, statistics_of, same_statistic, key_of}
 use Rattle.statistics.specs.ListLaws.{Listed, Distinct, same_is, place_none, place_further}
 use Rattle.statistics.specs.declared.Place.{Place}
@@ -28,6 +31,7 @@ use Rattle.statistics.specs.declared.Statistic.TheVariants.{Least, Greatest, Bla
 use Rattle.predicate.specs.declared.Column.{Column}
 use Rattle.pruning.specs.TableReading.{kind_of, operator_field, first_field, second_field, literal_first_field, first_of, second_of, statistic_at, table_node_of, node_table, table_node_at, table_at}
 use Rattle.pruning.specs.TableReading as Reading
+use Rattle.pruning.specs.NodeLaws.{node_by, node_kinds, shape_by, formed_so, formed_kinds}
 use Rattle.pruning.specs.TableChecking.{statistic_fine, stands_in, statistics_fine, guarantees_fine, table_shape_of, table_formed, is_bound, is_blanks, is_rows, named, table_named, table_node_fine, table_behind, then_at, check_table_from, ends, table_fine, words_within, checked_table}
 use Rattle.pruning.specs.declared.TableNode.{TableNode}
 use Rattle.pruning.specs.declared.TableNode.TheVariants.{Always, Join, Against, Positive, Differ, Holds, Negation}
@@ -48,43 +52,22 @@ asks_below (suc (suc (suc (suc (suc zero))))) h = tt
 asks_below (suc (suc (suc (suc (suc (suc n)))))) h = absurd (omega arith)
 
 module _ (pool : List ℕ) (w l : ℕ) where
-  abbrev nodes : List TableNode
-  nodes =
-      Always (eqb (operator_field w) 1)
-      ∷ Join And
-      ∷ Join Or
-      ∷ Against (or_equal (operator_of (operator_field w))) (first_of w) (eqb (literal_first_field w) 1) (literal_of pool l)
-      ∷ Positive (first_of w)
-      ∷ Differ (first_of w) (second_of w)
-      ∷ Holds (first_of w)
-      ∷ Negation
-      ∷ []
-
-  formed_asks : table_formed w ≡ true → (o : Operator) (p : Place) (b : Bool) (k : Literal) → table_node_of pool w l ≡ Against o p b k → Asks o
-  unfolding table_formed table_node_of
-  formed_asks f o p b k e = go (kind_of w) f e
+  formed_asks : table_formed w ≡ true → (o : Operator) (p : Place) (b : Bool) (v : Literal) → table_node_of pool w l ≡ Against o p b v → Asks o
+  formed_asks f o p b v e = go (kind_named (kind_of w)) (sym (formed_kinds w) ∙ f) (sym (node_kinds pool w l) ∙ e)
     where
-      other : {A : Type 0} (n : TableNode) → n ≡ Against o p b k → (n ≡ Against o p b k → ◌≡◌ {A = ℕ} 0 1) → A
-      other n e f = let z = f e in absurd (omega arith)
-
-      go : (i : ℕ)
-          → (ltb (operator_field w) (table_shape_of i).operators
-          && (unused_zero (table_shape_of i).first (first_field w)
-          && (unused_zero (table_shape_of i).second (second_field w)
-          && (unused_zero (table_shape_of i).literal_first (literal_first_field w) && eqb (Reading.zero_field w) 0)))) ≡ true
-          → get_or nodes i (Always true) ≡ Against o p b k → Asks o
-      go zero f e = other _ e (λ e. cc)
-      go (suc zero) f e = other _ e (λ e. cc)
-      go (suc (suc zero)) f e = other _ e (λ e. cc)
-      go (suc (suc (suc zero))) f e =
+      go : (k : Option Kind) → formed_so w (shape_by k) ≡ true → node_by pool w l k ≡ Against o p b v → Asks o
+      go (Some Kinds.Against) f e =
           let q : or_equal (operator_of (operator_field w)) ≡ o = cc in
           let h = and_both (ltb (operator_field w) 6) _ f in
           rw (← q) (asks_below (operator_field w) (ltb-true (operator_field w) 6 h.0))
-      go (suc (suc (suc (suc zero)))) f e = other _ e (λ e. cc)
-      go (suc (suc (suc (suc (suc zero))))) f e = other _ e (λ e. cc)
-      go (suc (suc (suc (suc (suc (suc zero)))))) f e = other _ e (λ e. cc)
-      go (suc (suc (suc (suc (suc (suc (suc zero))))))) f e = other _ e (λ e. cc)
-      go (suc (suc (suc (suc (suc (suc (suc (suc i)))))))) f e = other _ e (λ e. cc)
+      go (Some Kinds.Always) f e = absurd cc
+      go (Some Kinds.And) f e = absurd cc
+      go (Some Kinds.Or) f e = absurd cc
+      go (Some Kinds.Positive) f e = absurd cc
+      go (Some Kinds.Differ) f e = absurd cc
+      go (Some Kinds.Holds) f e = absurd cc
+      go (Some Kinds.Negation) f e = absurd cc
+      go None f e = absurd cc
 
 -- ---- a checked table
 

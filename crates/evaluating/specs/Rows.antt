@@ -1,6 +1,8 @@
 -- A container's cells as a row of words, in the order of the statistics list. Assumes nothing.
 use Rattle.std.specs.Prelude.{◌≡◌, refl, Bool, true, cond, List, ℕ, ◌<◌, length, get_or, ltb}
 use Rattle.std.proofs.Common.{sym, ◌∙◌, true≢false, lt-ltb}
+use Rattle.words.specs.declared.Walked.{Walked}
+use Rattle.kleene.specs.declared.Truth.{Truth}
 use Rattle.literals.specs.Literals.{null, value_at}
 use Rattle.statistics.specs.Statistics.{place_of}
 use Rattle.statistics.specs.ListLaws.{Distinct, place_at}
@@ -11,14 +13,13 @@ use Rattle.table.specs.Worth.{Cells, worth}
 use Rattle.pruning.specs.TableReading.{TableRead, statistic_at}
 use Rattle.pruning.specs.TableChecking.{is_bound, is_blanks, is_rows}
 use Rattle.pruning.specs.Cells.{cell_value, count_at}
-use Rattle.evaluating.specs.declared.Valued.{Valued}
 
 -- the cell of a statistic in a row; one that is not listed is absent
 abbrev pub row_cells : List ℕ → List Statistic → List ℕ → Cells
 row_cells pool list row s = cond (ltb (place_of s list) (length list)) (cell_value pool s (get_or row (place_of s list) 0)) null
 
 -- a table's worth, and the place behind it
-abbrev pub valued : Cells → TableRead → Valued
+abbrev pub valued : Cells → TableRead → Walked Truth
 valued cells r = record { value = worth cells r.table; next = r.next }
 
 -- ---- the cell of the statistic at a place

@@ -1,9 +1,12 @@
 -- One node on a row of cells, without its children, and what it says of the table that it begins. Assumes nothing.
-use Rattle.std.specs.Prelude.{◌≡◌, Bool, true, false, List, ℕ, ◌+◌, ◌-◌, ◌≤◌, get_or, eqb, pos}
+use Rattle.std.specs.Prelude.{◌≡◌, Some, Bool, true, false, List, ℕ, ◌+◌, ◌-◌, ◌/◌, ◌≤◌, ◌<◌, length, get_or, eqb, pos}
 use Rattle.std.proofs.Math.Path.{refl, ap}
 use Rattle.std.proofs.Common.{sym, ◌∙◌}
 use Rattle.std.proofs.lemmas.Bool.{false≢true}
 use native.Mathlib.Omega.{arith}
+use Rattle.words.specs.Word.{words_of}
+use Rattle.words.specs.WordLaws.{length_words}
+use Rattle.words.specs.declared.Walked.{Walked}
 use Rattle.operators.specs.Operators.{operator_of}
 use Rattle.operators.specs.declared.Operator.TheVariants.{NotEqual, Above}
 use Rattle.kleene.specs.Truths.{truth_of, kleene, kleene_not}
@@ -18,17 +21,18 @@ use Rattle.statistics.specs.ListLaws.{Distinct}
 use Rattle.statistics.specs.declared.Place.{Place}
 use Rattle.statistics.specs.declared.Statistic.{Statistic}
 use Rattle.table.specs.Worth.{worth}
+use Rattle.table.specs.Encoding.{kind_named}
+use Rattle.table.specs.declared.Kind.TheVariants as Kind
 use Rattle.pruning.specs.TableReading.{kind_of, operator_field, literal_first_field, first_of, second_of, TableRead, table_node_of, node_table, table_node_at, table_at, table_node}
-use Rattle.pruning.specs.NodeLaws.{node_other}
+use Rattle.pruning.specs.NodeLaws.{node_by, node_kinds}
 use Rattle.pruning.specs.declared.TableNode.{TableNode}
 use Rattle.pruning.specs.declared.TableNode.TheVariants.{Always, Join, Against, Positive, Differ, Holds, Negation}
 use Rattle.pruning.specs.Cells.{count_at}
 use Rattle.comparing.specs.Comparing.{Asks}
 use Rattle.evaluating.specs.declared.Step.{Step}
 use Rattle.evaluating.specs.declared.Step.TheVariants.{Leaf, Both, Turned}
-use Rattle.evaluating.specs.declared.Valued.{Valued}
 use Rattle.evaluating.specs.Rows.{row_cells, valued, bound_cell, blanks_cell, rows_cell}
-use Rattle.evaluating.specs.Ready.{NodeReady, behind, TableReady, ready_deep, ready_node, Ready}
+use Rattle.evaluating.specs.Ready.{NodeReady, behind, TableReady, ready_deep, ready_inside, ready_node, Ready}
 
 -- the value, and the count, at a place of a row
 abbrev pub bound_in : List ℕ → List ℕ → Place → Value
@@ -62,8 +66,15 @@ pub record Evaluable (pool ws : List ℕ) (d at : ℕ) : Type 0 where
   pub list : List Statistic
   pub ready : Ready list pool ws d at
 
+-- some depth is left, and the node's word is there
+pub evaluable_deep : (pool ws : List ℕ) (d at : ℕ) → Evaluable pool ws d at → 1 ≤ d
+evaluable_deep pool ws d at s = let h = ready_deep _ _ _ _ _ s.ready.table in omega arith
+
+pub evaluable_inside : (pool table : List ℕ) (d at : ℕ) → Evaluable pool (words_of table) d at → at < length table / 8
+evaluable_inside pool table d at s = rw length_words at (ready_inside _ _ _ _ _ s.ready.table)
+
 -- what a table is worth, and the place behind it, under every statistics list that it is ready under
-abbrev pub WorthFor : List ℕ → List ℕ → List ℕ → List ℕ → ℕ → ℕ → Valued → Type 0
+abbrev pub WorthFor : List ℕ → List ℕ → List ℕ → List ℕ → ℕ → ℕ → Walked Truth → Type 0
 WorthFor cells row pool ws d at r =
     (list : List Statistic) → Ready list pool ws d at → r ≡ valued (row_cells cells list row) (table_at list pool ws d at)
 
@@ -91,49 +102,12 @@ settled_is Or True True h = refl
 -- ---- by the kind of the node's word
 
 module _ (cells row pool : List ℕ) (w l : ℕ) where
-  abbrev step : Step
-  step = step_of cells row pool (table_node_of pool w l)
-
-  pub step_always : kind_of w ≡ 0 → step ≡ Leaf (truth_of (eqb (operator_field w) 1)) 1
-  unfolding table_node_of
-  step_always h = rw h
-
-  pub step_and : kind_of w ≡ 1 → step ≡ Both And
-  unfolding table_node_of
-  step_and h = rw h
-
-  pub step_or : kind_of w ≡ 2 → step ≡ Both Or
-  unfolding table_node_of
-  step_or h = rw h
-
-  pub step_against : kind_of w ≡ 3
-      → step ≡ Leaf (compared_from (eqb (literal_first_field w) 1) (or_equal (operator_of (operator_field w))) (bound_in cells row (first_of w)) (value_at pool l)) 2
-  unfolding table_node_of
-  step_against h = rw h
-
-  pub step_positive : kind_of w ≡ 4 → step ≡ Leaf (compared Above (count_in cells row (first_of w)) (int (pos 0))) 1
-  unfolding table_node_of
-  step_positive h = rw h
-
-  pub step_differ : kind_of w ≡ 5 → step ≡ Leaf (compared NotEqual (count_in cells row (first_of w)) (count_in cells row (second_of w))) 1
-  unfolding table_node_of
-  step_differ h = rw h
-
-  pub step_holds : kind_of w ≡ 6 → step ≡ Leaf (truth_in (bound_in cells row (first_of w))) 1
-  unfolding table_node_of
-  step_holds h = rw h
-
-  pub step_turned : kind_of w ≡ 7 → step ≡ Turned
-  unfolding table_node_of
-  step_turned h = rw h
-
-  pub step_other : 8 ≤ kind_of w → step ≡ Leaf True 1
-  step_other h = ap (step_of cells row pool) (node_other pool w l h)
+  pub step_kinds : step_of cells row pool (table_node_of pool w l) ≡ step_of cells row pool (node_by pool w l (kind_named (kind_of w)))
+  step_kinds = ap (step_of cells row pool) (node_kinds pool w l)
 
 -- the operator of a comparison
-pub against_asks : (pool : List ℕ) (w l : ℕ) → kind_of w ≡ 3 → NodeAsks (table_node_of pool w l) → Asks (or_equal (operator_of (operator_field w)))
-unfolding table_node_of
-against_asks pool w l h a = rw h at a
+pub against_asks : (pool : List ℕ) (w l : ℕ) → kind_named (kind_of w) ≡ Some Kind.Against → NodeAsks (table_node_of pool w l) → Asks (or_equal (operator_of (operator_field w)))
+against_asks pool w l h a = rw (node_kinds, h) at a
 
 -- ---- a step's parts
 
@@ -197,10 +171,10 @@ module _ (cells row pool : List ℕ) where
       go Negation = omega arith
 
   module _ (list : List Statistic) (d : Distinct list) (f : ℕ → TableRead) (F : ℕ → Type 0) (g : ℕ → ℕ) (at : ℕ) where
-    abbrev worth_at : TableNode → Valued
+    abbrev worth_at : TableNode → Walked Truth
     worth_at n = valued (row_cells cells list row) (node_table f list pool at n)
 
-    abbrev leaf_at : Step → Valued
+    abbrev leaf_at : Step → Walked Truth
     leaf_at s = record { value = leaf_worth s; next = at + leaf_words s }
 
     node_leaf : (n : TableNode) → NodeReady list F g at n → (t : Truth) (k : ℕ) → Leaf t k ≡ step_of cells row pool n → leaf_at (step_of cells row pool n) ≡ worth_at n
@@ -236,7 +210,7 @@ module _ (cells row pool ws : List ℕ) (d at : ℕ) (list : List Statistic) (r 
       ∙ rw (here node refl) (node_leaf cells row pool list r.distinct (table_at list pool ws (d - 1)) (TableReady list pool ws (d - 1)) (behind list pool ws (d - 1)) at node (there node refl) t k e)
 
   pub leaf_end : (t : Truth) (k : ℕ) → Leaf t k ≡ step_of cells row pool node → at + k ≡ behind list pool ws d at
-  leaf_end t k e = ap (λ (v : Valued). v.next) (leaf_worth_lem t k e)
+  leaf_end t k e = ap (λ (v : Walked Truth). v.next) (leaf_worth_lem t k e)
 
   module _ (j : Joining) (e : Both j ≡ step_of cells row pool node) where
     both_is : Join j ≡ node
@@ -245,10 +219,10 @@ module _ (cells row pool ws : List ℕ) (d at : ℕ) (list : List Statistic) (r 
     pub both_left : Ready list pool ws (d - 1) (at + 1)
     both_left = record { distinct = r.distinct; table = (there (Join j) both_is).0 }
 
-    pub both_right : (x : Valued) → x ≡ valued (row_cells cells list row) (table_at list pool ws (d - 1) (at + 1)) → Ready list pool ws (d - 1) x.next
+    pub both_right : (x : Walked Truth) → x ≡ valued (row_cells cells list row) (table_at list pool ws (d - 1) (at + 1)) → Ready list pool ws (d - 1) x.next
     both_right x p = record { distinct = r.distinct; table = rw p (there (Join j) both_is).1 }
 
-    pub both_worth : (x y : Valued) → x ≡ valued (row_cells cells list row) (table_at list pool ws (d - 1) (at + 1))
+    pub both_worth : (x y : Walked Truth) → x ≡ valued (row_cells cells list row) (table_at list pool ws (d - 1) (at + 1))
         → y ≡ valued (row_cells cells list row) (table_at list pool ws (d - 1) x.next)
         → record { value = kleene j x.value y.value; next = y.next } ≡ valued (row_cells cells list row) (table_at list pool ws d at)
     unfolding worth
@@ -267,7 +241,7 @@ module _ (cells row pool ws : List ℕ) (d at : ℕ) (list : List Statistic) (r 
     pub turned_child : Ready list pool ws (d - 1) (at + 1)
     turned_child = record { distinct = r.distinct; table = there Negation turned_is }
 
-    pub turned_worth : (x : Valued) → x ≡ valued (row_cells cells list row) (table_at list pool ws (d - 1) (at + 1))
+    pub turned_worth : (x : Walked Truth) → x ≡ valued (row_cells cells list row) (table_at list pool ws (d - 1) (at + 1))
         → record { value = kleene_not x.value; next = x.next } ≡ valued (row_cells cells list row) (table_at list pool ws d at)
     unfolding worth
     turned_worth x p = rw (here Negation turned_is, p)

@@ -20,16 +20,19 @@ ghost use Rattle.evaluating.specs.Ready.{Ready};
 ghost use Rattle.evaluating.specs.Steps.{bound_in, count_in, step_of, NodeAsks, Evaluable, WorthFor, settled};
 ghost use Rattle.evaluating.specs.Ends.{Skippable, EndFor};
 
-use cells::Count;
 use kleene::{Joining, Truth};
 use literals::Literal;
 use statistics::Place;
+use table::Kind;
+use words::Walked;
 
-// What a table is worth, and the place of the word behind it.
+// A table with its literal pool, and the row of a container with its cell pool.
 #[derive(Clone, Copy)]
-pub struct Valued {
-    pub value: Truth,
-    pub next: usize,
+pub struct Container<'a> {
+    pub table: &'a [u8],
+    pub pool: &'a [u8],
+    pub row: &'a [u8],
+    pub cells: &'a [u8],
 }
 
 // A node without its children: a leaf's worth and how many words it has, or what is done with the children.
@@ -40,21 +43,22 @@ pub enum Step {
     Turned,
 }
 
-// The least or greatest value at a place of a row.
-fn bound_at(cells: &[u8], row: &[u8], p: Place) -> Literal
-    ensures { result ≡ literal_of cells.now (get_or (words_of row.now) p.0 0) }
+// The least or greatest value at a place of the row.
+fn bound_at(c: &Container<'_>, p: Place) -> Literal
+    ensures { result ≡ literal_of c.now.cells.now (get_or (words_of c.now.row.now) p.0 0) }
 {
-    literals::literal_of(cells, words::word_or_zero(row, p.0 as usize))
+    literals::literal_of(c.cells, words::word_or_zero(c.row, usize::from(p.0)))
 }
 
-// The count at a place of a row.
-fn count_in(cells: &[u8], row: &[u8], p: Place) -> Count
-    ensures { count_value result ≡ count_at cells.now (get_or (words_of row.now) p.0 0) }
+// The count at a place of the row.
+fn count_in(c: &Container<'_>, p: Place) -> Option<u64>
+    ensures { count_value result ≡ count_at c.now.cells.now (get_or (words_of c.now.row.now) p.0 0) }
 {
-    cells::count_at(cells, words::word_or_zero(row, p.0 as usize))
+    cells::count_at(c.cells, words::word_or_zero(c.row, usize::from(p.0)))
 }
 
 // The word at a place of a table.
+#[tactic(auto, using(words::specs::WordLaws::words_at))]
 fn node_word(table: &[u8], at: usize) -> u64
     requires { at < length table.now / 8 }
     ensures { result ≡ get_or (words_of table.now) at 0 }
@@ -63,55 +67,44 @@ fn node_word(table: &[u8], at: usize) -> u64
 }
 
 // What a comparison's word w at a place says of the cell that it names and the literal behind it.
-fn against_at<'a>(
-    pool: &'a [u8],
-    table: &[u8],
-    cells: &'a [u8],
-    row: &[u8],
-    at: usize,
-    w: u64,
-) -> Truth
-    requires { (at < length table.now / 8) × Asks (or_equal (operator_of (operator_field w))) }
-    ensures { result ≡ compared_from (eqb (literal_first_field w) 1) (or_equal (operator_of (operator_field w))) (bound_in cells.now (words_of row.now) (first_of w)) (value_at pool.now (get_or (words_of table.now) (at + 1) 0)) }
+fn against_at(c: &Container<'_>, at: usize, w: u64) -> Truth
+    requires { (at < length c.now.table.now / 8) × Asks (or_equal (operator_of (operator_field w))) }
+    ensures { result ≡ compared_from (eqb (literal_first_field w) 1) (or_equal (operator_of (operator_field w))) (bound_in c.now.cells.now (words_of c.now.row.now) (first_of w)) (value_at c.now.pool.now (get_or (words_of c.now.table.now) (at + 1) 0)) }
 {
     let o = pruning::operator_or_equal(pruning::operator_of(w));
-    let c = words::word_or_zero(row, pruning::first_of(w) as usize);
+    let cell = words::word_or_zero(c.row, usize::from(pruning::first_of(w)));
     let first = pruning::literal_first_of(w) == 1;
-    let l = words::word_or_zero(table, at + 1);
-    comparing::against_words(pool, cells, o, c, first, l)
+    let literal = words::word_or_zero(c.table, at + 1);
+    comparing::against_words(c.pool, c.cells, o, cell, first, literal)
 }
 
-// Whether two counts of a row differ, which the word w names.
-fn differ_at(cells: &[u8], row: &[u8], w: u64) -> Truth
-    ensures { result ≡ compared NotEqual (count_in cells.now (words_of row.now) (first_of w)) (count_in cells.now (words_of row.now) (second_of w)) }
+// Whether two counts of the row differ, which the word w names.
+fn differ_at(c: &Container<'_>, w: u64) -> Truth
+    ensures { result ≡ compared NotEqual (count_in c.now.cells.now (words_of c.now.row.now) (first_of w)) (count_in c.now.cells.now (words_of c.now.row.now) (second_of w)) }
 {
     let p = Place(pruning::first_of(w));
     let q = Place(pruning::second_of(w));
-    comparing::differ(count_in(cells, row, p), count_in(cells, row, q))
+    comparing::differ(count_in(c, p), count_in(c, q))
 }
 
-// The node at a place on a row of cells, without its children; of its word only what its kind has is read.
-fn step_at<'a>(pool: &'a [u8], table: &[u8], cells: &'a [u8], row: &[u8], at: usize) -> Step
-    requires { (at < length table.now / 8) × NodeAsks (table_node_at pool.now (words_of table.now) at) }
-    ensures { result ≡ step_of cells.now (words_of row.now) pool.now (table_node_at pool.now (words_of table.now) at) }
+// The node at a place, without its children; of its word only what its kind has is read.
+#[tactic(auto, using(crate::specs::Steps::step_kinds))]
+fn step_at(c: &Container<'_>, at: usize) -> Step
+    requires { (at < length c.now.table.now / 8) × NodeAsks (table_node_at c.now.pool.now (words_of c.now.table.now) at) }
+    ensures { result ≡ step_of c.now.cells.now (words_of c.now.row.now) c.now.pool.now (table_node_at c.now.pool.now (words_of c.now.table.now) at) }
 {
-    let w = node_word(table, at);
-    match pruning::kind_of(w) {
-        0 => Step::Leaf(comparing::truth_of(pruning::operator_of(w) == 1), 1),
-        1 => Step::Both(Joining::And),
-        2 => Step::Both(Joining::Or),
-        3 => Step::Leaf(against_at(pool, table, cells, row, at, w), 2),
-        4 => Step::Leaf(
-            comparing::is_positive(count_in(cells, row, Place(pruning::first_of(w)))),
-            1,
-        ),
-        5 => Step::Leaf(differ_at(cells, row, w), 1),
-        6 => Step::Leaf(
-            comparing::truth_in(cells, bound_at(cells, row, Place(pruning::first_of(w)))),
-            1,
-        ),
-        7 => Step::Turned,
-        _ => Step::Leaf(Truth::True, 1),
+    let w = node_word(c.table, at);
+    let first = Place(pruning::first_of(w));
+    match Kind::of_number(pruning::kind_of(w)) {
+        Some(Kind::Always) => Step::Leaf(comparing::truth_of(pruning::operator_of(w) == 1), 1),
+        Some(Kind::And) => Step::Both(Joining::And),
+        Some(Kind::Or) => Step::Both(Joining::Or),
+        Some(Kind::Against) => Step::Leaf(against_at(c, at, w), 2),
+        Some(Kind::Positive) => Step::Leaf(comparing::is_positive(count_in(c, first)), 1),
+        Some(Kind::Differ) => Step::Leaf(differ_at(c, w), 1),
+        Some(Kind::Holds) => Step::Leaf(comparing::truth_in(c.cells, bound_at(c, first)), 1),
+        Some(Kind::Negation) => Step::Turned,
+        None => Step::Leaf(Truth::True, 1),
     }
 }
 
@@ -119,18 +112,10 @@ fn step_at<'a>(pool: &'a [u8], table: &[u8], cells: &'a [u8], row: &[u8], at: us
 fn settles(way: Joining, a: Truth) -> bool
     ensures { result ≡ settled way a }
 {
-    match way {
-        Joining::And => match a {
-            Truth::False => true,
-            Truth::Unknown => false,
-            Truth::True => false,
-        },
-        Joining::Or => match a {
-            Truth::False => false,
-            Truth::Unknown => false,
-            Truth::True => true,
-        },
-    }
+    matches!(
+        (way, a),
+        (Joining::And, Truth::False) | (Joining::Or, Truth::True)
+    )
 }
 
 // The place behind the table at a place, with a depth left.
@@ -138,67 +123,56 @@ fn end_of(table: &[u8], depth: usize, at: usize) -> usize
     requires { Skippable (words_of table.now) depth at }
     ensures { EndFor (words_of table.now) depth at result }
 {
-    match pruning::kind_of(node_word(table, at)) {
-        1 => end_of(table, depth - 1, end_of(table, depth - 1, at + 1)),
-        2 => end_of(table, depth - 1, end_of(table, depth - 1, at + 1)),
-        3 => at + 2,
-        7 => end_of(table, depth - 1, at + 1),
-        _ => at + 1,
+    let left = depth - 1;
+    let child = at + 1;
+    match Kind::of_number(pruning::kind_of(node_word(table, at))) {
+        Some(Kind::And | Kind::Or) => end_of(table, left, end_of(table, left, child)),
+        Some(Kind::Against) => at + 2,
+        Some(Kind::Negation) => end_of(table, left, child),
+        _ => child,
     }
 }
 
-// What the table at a place is worth on a row of cells, with a depth left; a side that decides nothing more is passed over.
-pub fn worth_at<'a>(
-    pool: &'a [u8],
-    table: &[u8],
-    cells: &'a [u8],
-    row: &[u8],
-    depth: usize,
-    at: usize,
-) -> Valued
-    requires { Evaluable pool.now (words_of table.now) depth at }
-    ensures { WorthFor cells.now (words_of row.now) pool.now (words_of table.now) depth at result }
+// What the table at a place is worth on the row, with a depth left; a side that decides nothing more is passed over.
+pub fn worth_at(c: &Container<'_>, depth: usize, at: usize) -> Walked<Truth>
+    requires { Evaluable c.now.pool.now (words_of c.now.table.now) depth at }
+    ensures { WorthFor c.now.cells.now (words_of c.now.row.now) c.now.pool.now (words_of c.now.table.now) depth at result }
 {
-    match step_at(pool, table, cells, row, at) {
-        Step::Leaf(value, n) => Valued {
+    let left = depth - 1;
+    let child = at + 1;
+    match step_at(c, at) {
+        Step::Leaf(value, n) => Walked {
             value,
             next: at + n,
         },
         Step::Both(way) => {
-            let l = worth_at(pool, table, cells, row, depth - 1, at + 1);
-            let a = l.value;
-            let m = l.next;
-            if settles(way, a) {
-                return Valued {
-                    value: a,
-                    next: end_of(table, depth - 1, m),
+            let l = worth_at(c, left, child);
+            if settles(way, l.value) {
+                return Walked {
+                    value: l.value,
+                    next: end_of(c.table, left, l.next),
                 };
             }
-            let r = worth_at(pool, table, cells, row, depth - 1, m);
-            let b = r.value;
-            let next = r.next;
-            Valued {
-                value: kleene::join(way, a, b),
-                next,
+            let r = worth_at(c, left, l.next);
+            Walked {
+                value: kleene::join(way, l.value, r.value),
+                next: r.next,
             }
         }
         Step::Turned => {
-            let v = worth_at(pool, table, cells, row, depth - 1, at + 1);
-            let a = v.value;
-            let next = v.next;
-            Valued {
-                value: a.not(),
-                next,
+            let v = worth_at(c, left, child);
+            Walked {
+                value: v.value.not(),
+                next: v.next,
             }
         }
     }
 }
 
-// What a checked table is worth on a row of cells.
-pub fn evaluate<'a>(list: &[u8], pool: &'a [u8], table: &[u8], cells: &'a [u8], row: &[u8]) -> Truth
-    requires { Ready (list_of list.now) pool.now (words_of table.now) max_table_depth 0 }
-    ensures { result ≡ worth (row_cells cells.now (list_of list.now) (words_of row.now)) (table_at (list_of list.now) pool.now (words_of table.now) max_table_depth 0).table }
+// What a checked table is worth on the row.
+pub fn evaluate(list: &[u8], c: &Container<'_>) -> Truth
+    requires { Ready (list_of list.now) c.now.pool.now (words_of c.now.table.now) max_table_depth 0 }
+    ensures { result ≡ worth (row_cells c.now.cells.now (list_of list.now) (words_of c.now.row.now)) (table_at (list_of list.now) c.now.pool.now (words_of c.now.table.now) max_table_depth 0).table }
 {
-    let v = worth_at(pool, table, cells, row, limits::MAX_TABLE_DEPTH, 0);
-    v.value
+    worth_at(c, limits::MAX_TABLE_DEPTH, 0).value
 }

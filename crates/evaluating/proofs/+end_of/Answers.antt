@@ -1,140 +1,84 @@
 -- By the kind of the word, with the ends of the children. Assumes nothing.
-use Rattle.std.proofs.Common.{rules, ◌≡◌, sym, ◌∙◌, ◌/◌, ◌<◌, ◌≤◌, length, get_or, ℕ, List, [], arith}
+use Rattle.std.proofs.Common.{rules, ◌≡◌, sym, ◌∙◌, ap, get_or, true, refl, None, Some}
 use Rattle.words.specs.Word.{words_of}
-use Rattle.words.specs.WordLaws.{length_words}
-use Rattle.kleene.specs.declared.Joining.TheVariants.{And, Or}
+use Rattle.table.specs.Encoding.{kind_named}
 use Rattle.pruning.specs.TableReading.{kind_of}
-use Rattle.evaluating.specs.Ready.{ready_deep, ready_inside}
-use Rattle.evaluating.specs.Steps.{both_left, both_next, both_end, turned_child, turned_end}
-use Rattle.evaluating.specs.Ends.{Skippable, and_step, or_step, turned_step, against_end, plain_end}
+use Rattle.evaluating.specs.Ends.{skippable_deep, skippable_inside, joins, bare, step_by, word_end, bare_end, first_ready, second_ready, second_end, child_ready, child_end}
 use Rattle.evaluating.proofs.+end_of.Goals as goal
 
--- some depth is left, and the word is there
+pub overflow_sub-left : goal.overflow_sub-left
+overflow_sub-left t c = skippable_deep _ _ _ c.requires
 
-deep : (ws : List ℕ) (d at : ℕ) → Skippable ws d at → 1 ≤ d
-deep ws d at s = let h = ready_deep _ _ _ _ _ s.ready.table in omega arith
-
-inside : (table : List ℕ) (d at : ℕ) → Skippable (words_of table) d at → at < length table / 8
-inside table d at s = rw length_words at (ready_inside _ _ _ _ _ s.ready.table)
+pub overflow_add-child : goal.overflow_add-child
+overflow_add-child t c = let h = skippable_inside _ _ _ c.requires in search rules
 
 pub node_word-requires : goal.node_word-requires
-node_word-requires t c =
-    inside c.args.table.now c.args.depth c.args.at c.requires
-
-pub overflow_sub-depth : goal.overflow_sub-depth
-overflow_sub-depth t c =
-    let h = deep (words_of c.args.table.now) c.args.depth c.args.at c.requires in search rules
-
-pub overflow_sub-depth-in-1 : goal.overflow_sub-depth-in-1
-overflow_sub-depth-in-1 t c =
-    let h = deep (words_of c.args.table.now) c.args.depth c.args.at c.requires in search rules
-
-pub overflow_sub-depth-in-2 : goal.overflow_sub-depth-in-2
-overflow_sub-depth-in-2 t c =
-    let h = deep (words_of c.args.table.now) c.args.depth c.args.at c.requires in search rules
-
-pub overflow_sub-depth-in-2-2 : goal.overflow_sub-depth-in-2-2
-overflow_sub-depth-in-2-2 t c =
-    let h = deep (words_of c.args.table.now) c.args.depth c.args.at c.requires in search rules
-
-pub overflow_sub-depth-in-7 : goal.overflow_sub-depth-in-7
-overflow_sub-depth-in-7 t c =
-    let h = deep (words_of c.args.table.now) c.args.depth c.args.at c.requires in search rules
-
-pub overflow_add-at : goal.overflow_add-at
-overflow_add-at t c =
-    let h = inside c.args.table.now c.args.depth c.args.at c.requires in search rules
-
-pub overflow_add-at-in-2 : goal.overflow_add-at-in-2
-overflow_add-at-in-2 t c =
-    let h = inside c.args.table.now c.args.depth c.args.at c.requires in search rules
+node_word-requires t c = skippable_inside _ _ _ c.requires
 
 pub overflow_add-result : goal.overflow_add-result
-overflow_add-result t c =
-    let h = inside c.args.table.now c.args.depth c.args.at c.requires in search rules
-
-pub overflow_add-at-in-7 : goal.overflow_add-at-in-7
-overflow_add-at-in-7 t c =
-    let h = inside c.args.table.now c.args.depth c.args.at c.requires in search rules
-
-pub overflow_add-result-in_default : goal.overflow_add-result-in_default
-overflow_add-result-in_default t c =
-    let h = inside c.args.table.now c.args.depth c.args.at c.requires in search rules
+overflow_add-result t c = let h = skippable_inside _ _ _ c.requires in search rules
 
 pub end_of-requires : goal.end_of-requires
 end_of-requires t c =
-    let h = deep (words_of c.args.table.now) c.args.depth c.args.at c.requires in
-    let l = c.requires.list in
-    let p = c.requires.pool in
-    let r = c.requires.ready in
-    let e = and_step (words_of c.args.table.now) p c.args.at (sym (rw c.node_word.ensures at c.kind_of.ensures) ∙ c.in-1.is) in
-    (search rules, record { list = l; pool = p; ready = both_left [] [] p (words_of c.args.table.now) c.args.depth c.args.at l r And e })
+    let a = c.args in
+    let s = c.requires in
+    let e : c.of_number.result ≡ kind_named (kind_of (get_or (words_of a.table.now) a.at 0)) = rw (← c.node_word.ensures, ← c.kind_of.ensures) c.of_number.ensures in
+    let h : joins c.in-Some-And.field-0 ≡ true = search rules in
+    let deep = skippable_deep _ _ _ s in
+    (search rules, record { list = s.list; pool = s.pool; ready = first_ready _ _ _ _ _ s.ready _ e _ c.in-Some-And.is h })
 
-pub end_of-requires-in-1 : goal.end_of-requires-in-1
-end_of-requires-in-1 t c =
-    let h = deep (words_of c.args.table.now) c.args.depth c.args.at c.requires in
-    let l = c.requires.list in
-    let p = c.requires.pool in
-    let r = c.requires.ready in
-    let e = and_step (words_of c.args.table.now) p c.args.at (sym (rw c.node_word.ensures at c.kind_of.ensures) ∙ c.in-1.is) in
-    let left = both_left [] [] p (words_of c.args.table.now) c.args.depth c.args.at l r And e in
-    (search rules, record { list = l; pool = p; ready = both_next [] [] p (words_of c.args.table.now) c.args.depth c.args.at l r And e c.end_of.result (c.end_of.ensures l p left) })
+pub end_of-requires-in-Some-And : goal.end_of-requires-in-Some-And
+end_of-requires-in-Some-And t c =
+    let a = c.args in
+    let s = c.requires in
+    let e : c.of_number.result ≡ kind_named (kind_of (get_or (words_of a.table.now) a.at 0)) = rw (← c.node_word.ensures, ← c.kind_of.ensures) c.of_number.ensures in
+    let h : joins c.in-Some-And.field-0 ≡ true = search rules in
+    let x = c.end_of.ensures s.list s.pool (first_ready _ _ _ _ _ s.ready _ e _ c.in-Some-And.is h) in
+    let deep = skippable_deep _ _ _ s in
+    (search rules, record { list = s.list; pool = s.pool; ready = second_ready _ _ _ _ _ s.ready _ e _ c.in-Some-And.is h _ x })
 
-pub returns-in-1 : goal.returns-in-1
-returns-in-1 t c =
+pub returns-in-Some-And : goal.returns-in-Some-And
+returns-in-Some-And t c =
+    let a = c.args in
+    let e : c.of_number.result ≡ kind_named (kind_of (get_or (words_of a.table.now) a.at 0)) = rw (← c.node_word.ensures, ← c.kind_of.ensures) c.of_number.ensures in
+    let h : joins c.in-Some-And.field-0 ≡ true = search rules in
     λ l p r.
-    let e = and_step (words_of c.args.table.now) p c.args.at (sym (rw c.node_word.ensures at c.kind_of.ensures) ∙ c.in-1.is) in
-    let x = c.end_of.ensures l p (both_left [] [] p (words_of c.args.table.now) c.args.depth c.args.at l r And e) in
-    let y = c.end_of-in-1.ensures l p (both_next [] [] p (words_of c.args.table.now) c.args.depth c.args.at l r And e c.end_of.result x) in
-    both_end [] [] p (words_of c.args.table.now) c.args.depth c.args.at l r And e c.end_of.result c.end_of-in-1.result x y
+    let x = c.end_of.ensures l p (first_ready _ _ _ _ _ r _ e _ c.in-Some-And.is h) in
+    let y = c.end_of-in-Some-And.ensures l p (second_ready _ _ _ _ _ r _ e _ c.in-Some-And.is h _ x) in
+    second_end _ _ _ _ _ r _ e _ c.in-Some-And.is h _ _ x y
 
-pub end_of-requires-in-2 : goal.end_of-requires-in-2
-end_of-requires-in-2 t c =
-    let h = deep (words_of c.args.table.now) c.args.depth c.args.at c.requires in
-    let l = c.requires.list in
-    let p = c.requires.pool in
-    let r = c.requires.ready in
-    let e = or_step (words_of c.args.table.now) p c.args.at (sym (rw c.node_word.ensures at c.kind_of.ensures) ∙ c.in-2.is) in
-    (search rules, record { list = l; pool = p; ready = both_left [] [] p (words_of c.args.table.now) c.args.depth c.args.at l r Or e })
+pub end_of-requires-in-Some-Negation : goal.end_of-requires-in-Some-Negation
+end_of-requires-in-Some-Negation t c =
+    let a = c.args in
+    let s = c.requires in
+    let e : c.of_number.result ≡ kind_named (kind_of (get_or (words_of a.table.now) a.at 0)) = rw (← c.node_word.ensures, ← c.kind_of.ensures) c.of_number.ensures in
+    let q = sym (ap (step_by s.pool (words_of a.table.now) a.at) (c.in-Some-Negation.is ∙ ap Some c.in-Some-Negation.field-0-is)) in
+    let deep = skippable_deep _ _ _ s in
+    (search rules, record { list = s.list; pool = s.pool; ready = child_ready _ _ _ _ _ s.ready _ e q })
 
-pub end_of-requires-in-2-2 : goal.end_of-requires-in-2-2
-end_of-requires-in-2-2 t c =
-    let h = deep (words_of c.args.table.now) c.args.depth c.args.at c.requires in
-    let l = c.requires.list in
-    let p = c.requires.pool in
-    let r = c.requires.ready in
-    let e = or_step (words_of c.args.table.now) p c.args.at (sym (rw c.node_word.ensures at c.kind_of.ensures) ∙ c.in-2.is) in
-    let left = both_left [] [] p (words_of c.args.table.now) c.args.depth c.args.at l r Or e in
-    (search rules, record { list = l; pool = p; ready = both_next [] [] p (words_of c.args.table.now) c.args.depth c.args.at l r Or e c.end_of-in-2.result (c.end_of-in-2.ensures l p left) })
-
-pub returns-in-2 : goal.returns-in-2
-returns-in-2 t c =
+pub returns-in-Some-Negation : goal.returns-in-Some-Negation
+returns-in-Some-Negation t c =
+    let a = c.args in
+    let e : c.of_number.result ≡ kind_named (kind_of (get_or (words_of a.table.now) a.at 0)) = rw (← c.node_word.ensures, ← c.kind_of.ensures) c.of_number.ensures in
     λ l p r.
-    let e = or_step (words_of c.args.table.now) p c.args.at (sym (rw c.node_word.ensures at c.kind_of.ensures) ∙ c.in-2.is) in
-    let x = c.end_of-in-2.ensures l p (both_left [] [] p (words_of c.args.table.now) c.args.depth c.args.at l r Or e) in
-    let y = c.end_of-in-2-2.ensures l p (both_next [] [] p (words_of c.args.table.now) c.args.depth c.args.at l r Or e c.end_of-in-2.result x) in
-    both_end [] [] p (words_of c.args.table.now) c.args.depth c.args.at l r Or e c.end_of-in-2.result c.end_of-in-2-2.result x y
+    let q = sym (ap (step_by p (words_of a.table.now) a.at) (c.in-Some-Negation.is ∙ ap Some c.in-Some-Negation.field-0-is)) in
+    child_end _ _ _ _ _ r _ e q _ (c.end_of-in-Some-Negation.ensures l p (child_ready _ _ _ _ _ r _ e q))
 
-pub end_of-requires-in-7 : goal.end_of-requires-in-7
-end_of-requires-in-7 t c =
-    let h = deep (words_of c.args.table.now) c.args.depth c.args.at c.requires in
-    let l = c.requires.list in
-    let p = c.requires.pool in
-    let r = c.requires.ready in
-    let e = turned_step (words_of c.args.table.now) p c.args.at (sym (rw c.node_word.ensures at c.kind_of.ensures) ∙ c.in-7.is) in
-    (search rules, record { list = l; pool = p; ready = turned_child [] [] p (words_of c.args.table.now) c.args.depth c.args.at l r e })
-
-pub returns-in-3 : goal.returns-in-3
-returns-in-3 t c =
-    λ l p r. against_end (words_of c.args.table.now) p c.args.at c.args.depth l r (sym (rw c.node_word.ensures at c.kind_of.ensures) ∙ c.in-3.is)
-
-pub returns-in-7 : goal.returns-in-7
-returns-in-7 t c =
-    λ l p r.
-    let e = turned_step (words_of c.args.table.now) p c.args.at (sym (rw c.node_word.ensures at c.kind_of.ensures) ∙ c.in-7.is) in
-    turned_end [] [] p (words_of c.args.table.now) c.args.depth c.args.at l r e c.end_of-in-7.result (c.end_of-in-7.ensures l p (turned_child [] [] p (words_of c.args.table.now) c.args.depth c.args.at l r e))
+pub returns-in-Some-Against : goal.returns-in-Some-Against
+returns-in-Some-Against t c =
+    let a = c.args in
+    let e : c.of_number.result ≡ kind_named (kind_of (get_or (words_of a.table.now) a.at 0)) = rw (← c.node_word.ensures, ← c.kind_of.ensures) c.of_number.ensures in
+    λ l p r. word_end p (words_of a.table.now) a.at _ l r _ e _ 2 (sym (ap (step_by p (words_of a.table.now) a.at) (c.in-Some-Against.is ∙ ap Some c.in-Some-Against.field-0-is)))
 
 pub returns-in_default : goal.returns-in_default
 returns-in_default t c =
-    let k : c.kind_of.result ≡ kind_of (get_or (words_of c.args.table.now) c.args.at 0) = (rw c.node_word.ensures at c.kind_of.ensures) in
-    λ l p r. plain_end (words_of c.args.table.now) p c.args.at c.args.depth l r (λ h. omega (arith, k, h)) (λ h. omega (arith, k, h)) (λ h. omega (arith, k, h)) (λ h. omega (arith, k, h))
+    let a = c.args in
+    let e : c.of_number.result ≡ kind_named (kind_of (get_or (words_of a.table.now) a.at 0)) = rw (← c.node_word.ensures, ← c.kind_of.ensures) c.of_number.ensures in
+    let h : bare c.in_default.field-0 ≡ true = search rules in
+    λ l p r. bare_end _ _ _ _ _ r _ e _ c.in_default.is h
+
+pub returns-in_default-2 : goal.returns-in_default-2
+returns-in_default-2 t c =
+    let a = c.args in
+    let e : c.of_number.result ≡ kind_named (kind_of (get_or (words_of a.table.now) a.at 0)) = rw (← c.node_word.ensures, ← c.kind_of.ensures) c.of_number.ensures in
+    λ l p r. word_end p (words_of a.table.now) a.at _ l r _ e _ 1 (sym (ap (step_by p (words_of a.table.now) a.at) c.in_default.is))
