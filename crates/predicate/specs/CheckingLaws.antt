@@ -9,6 +9,8 @@ use Rattle.std.proofs.Math.ListN.{length, get_or-eq_default}
 use Rattle.std.proofs.Math.Dec.{eqb, ltb, lit≤}
 use borrow.Author.Tests.{ltb-true, ltb-false, eqb-true, eqb-false, not-true}
 use Rattle.limits.specs.Limits.{max_literal_bytes, max_all_literal_bytes, malformed, misfit}
+use Rattle.limits.specs.Refusals.{number_of}
+use Rattle.limits.specs.declared.Refusal.{Refusal}
 use Rattle.words.specs.Tests.{and_both, or_other}
 use Rattle.literals.specs.Literals.{length_of, plain, suits, literal_of, text_type, truth_type}
 use Rattle.predicate.specs.Nodes.{kind_of, operator_field, column_field, flips_of, first_field, count_of, zero_field, node_of}
@@ -18,7 +20,7 @@ use Rattle.predicate.specs.declared.Node.{Node}
 use Rattle.predicate.specs.declared.Node.TheVariants.{Constant, Join, Not, TruthColumn, IsNull, IsNotNull, Comparison, List as InList, Like}
 use Rattle.predicate.specs.declared.Shape.{Shape}
 use Rattle.predicate.specs.declared.Progress.{Progress}
-use Rattle.predicate.specs.Checked.{Checked, Refused, Passed}
+use Rattle.predicate.specs.Checked.{Checked, Refused, Passed, number_some}
 
 -- ---- parts in order
 
@@ -36,6 +38,9 @@ then_says f (Passed s) t e = (s, refl, e)
 pub passes_fault : (n : ℕ) (x : Checked) → (n ≡ 0 → ⊥) → passes n x ≡ Refused n
 passes_fault zero x h = absurd (h refl)
 passes_fault (suc n) x h = refl
+
+pub passes_number : (r : Refusal) (x : Checked) → passes (number_of r) x ≡ Refused (number_of r)
+passes_number r x = passes_fault (number_of r) x (number_some r)
 
 pub passes_fine : (n : ℕ) (x : Checked) → n ≡ 0 → passes n x ≡ x
 passes_fine n x e = rw e

@@ -101,9 +101,7 @@ pub struct Progress {
 impl Progress {
     // Behind a node's word.
     pub fn after_node(self, w: u64) -> Progress
-        requires place { self.place + 1 < 2 ^ 64 }
-        requires nodes { self.nodes + 1 < 2 ^ 64 }
-        requires listed { self.listed + count_of w < 2 ^ 64 }
+        requires { (self.place + 1 < 2 ^ 64) × ((self.nodes + 1 < 2 ^ 64) × (self.listed + count_of w < 2 ^ 64)) }
         ensures { result ≡ after_node self w }
     {
         Progress {
@@ -116,8 +114,7 @@ impl Progress {
 
     // Behind a literal's word.
     pub fn after_literal(self, w: u64) -> Progress
-        requires place { self.place + 1 < 2 ^ 64 }
-        requires bytes { self.bytes + length_of w < 2 ^ 64 }
+        requires { (self.place + 1 < 2 ^ 64) × (self.bytes + length_of w < 2 ^ 64) }
         ensures { result ≡ after_literal self w }
     {
         Progress {
