@@ -1,13 +1,13 @@
 -- What one node word is judged: its fault, or the node that has none. Assumes nothing.
-use Rattle.std.specs.Prelude.{◌≡◌, refl, List, Result, Ok, Err}
+use Rattle.std.specs.Prelude.{◌≡◌, refl, List, Result, Ok, Err, IsErrAnd}
 use Prim.Native.Nat.{ℕ, zero, suc, ◌-◌}
-use Rattle.std.proofs.Common.{arith}
+use Rattle.std.proofs.Common.{arith, ap}
 use Rattle.predicate.specs.Predicates.{node_at}
 use Rattle.predicate.specs.Checking.{word_here, after_node, check_behind, node_fault, check_from}
-use Rattle.predicate.proofs.CheckingLaws.{check_fault, check_node}
+use Rattle.predicate.proofs.CheckingLaws.{NodeSays, node_says, check_fault, check_node}
 use Rattle.predicate.specs.declared.Node.{Node}
 use Rattle.predicate.specs.declared.Progress.{Progress}
-use Rattle.predicate.specs.Checked.{Refused}
+use Rattle.predicate.specs.Checked.{Refused, number_some}
 use Rattle.limits.specs.Refusals.{number_of}
 use Rattle.limits.specs.declared.Refusal.{Refusal}
 
@@ -23,6 +23,17 @@ judged_of (Err r) = Faulty (number_of r)
 abbrev pub judged : ℕ → Node → Judged
 judged zero n = Fine n
 judged (suc k) n = Faulty (suc k)
+
+pub judged_number : (r : Refusal) (n : Node) → judged (number_of r) n ≡ Faulty (number_of r)
+judged_number r n = go (number_of r) (number_some r)
+  where
+    go : (k : ℕ) → (k ≡ 0 → ⊥) → judged k n ≡ Faulty k
+    go zero h = absurd (h refl)
+    go (suc k) h = refl
+
+pub judged_err : (x : Result Node Refusal) (r : Refusal) → IsErrAnd x (λ y. y ≡ r) → judged_of x ≡ Faulty (number_of r)
+judged_err (Ok n) r h = absurd h
+judged_err (Err y) r h = ap (λ z. Faulty (number_of z)) h
 
 module _ (schema pool ws : List ℕ) where
   -- the node word at the next place, with a depth left
@@ -52,6 +63,9 @@ module _ (schema pool ws : List ℕ) where
   pub fine_fault : (d : ℕ) (s : Progress) (n : Node) → judge_of d s ≡ Fine n → node_fault schema pool ws d s ≡ 0
   unfolding judge_of
   fine_fault d s n e = (fine_of (node_fault schema pool ws d s) (node_at pool ws s.place) n e).0
+
+  pub fine_says : (d : ℕ) (s : Progress) (n : Node) → judge_of d s ≡ Fine n → NodeSays schema pool ws d s
+  fine_says d s n e = node_says schema pool ws d s (fine_fault d s n e)
 
   -- a judgement leads on
   pub check_faulty : (d : ℕ) (s : Progress) (k : ℕ) → judge_of d s ≡ Faulty k → check_from schema pool ws d s ≡ Refused k

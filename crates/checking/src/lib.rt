@@ -1,12 +1,13 @@
 // Node checking: which refusal the bytes of a rewriting call get, word by word, 4 before 5 before 6 in a word.
 #![tactic(auto)]
 
-ghost use Rattle.std.specs.Prelude.{◌≡◌, ◌&&◌, length, ltb};
+ghost use Rattle.std.specs.Prelude.{◌≡◌, ◌&&◌, length, ltb, nat_le};
+ghost use Rattle.std.specs.List.{list_all};
 ghost use Rattle.limits.specs.Refusals.{fault_of};
 ghost use Rattle.words.specs.Word.{words_of};
-ghost use Rattle.literals.specs.Literals.{suits};
+ghost use Rattle.literals.specs.Literals.{integer_type, truth_type, suits};
 ghost use Rattle.predicate.specs.Checked.{outcome_of};
-ghost use Rattle.predicate.specs.Checking.{types_fine, schema_fine, shape_of, formed, limited, first_fault, flippable, columned, literal_limited, patterned, literal_fault, check_literal, check_literals, check_from, predicate_fault};
+ghost use Rattle.predicate.specs.Checking.{schema_fine, shape_of, formed, limited, first_fault, flippable, columned, literal_limited, patterned, literal_fault, check_literal, check_literals, check_from, predicate_fault};
 ghost use Rattle.predicate.specs.Calls.{roomy, rewrite_fault};
 ghost use Rattle.checking.specs.Judging.{judged_of, judge_of};
 
@@ -128,6 +129,7 @@ pub fn columned(schema: &[u8], n: Node) -> bool
 }
 
 // Judges the node word at the next place, with a depth left.
+#[tactic(auto, unfolding(crate::specs::Judging::judge_of, predicate::specs::Checking::node_fault), using(words::specs::WordLaws::length_words, crate::specs::Judging::judged_number))]
 pub fn judge(r: &Request<'_>, depth: usize, s: Progress) -> Result<Node, Refusal>
     ensures { judged_of result ≡ judge_of r.now.schema.now r.now.pool.now (words_of r.now.words.now) depth s }
 {
@@ -185,6 +187,7 @@ fn literal_fault(
 }
 
 // Checks the literal word at the next place for a column.
+#[tactic(auto, unfolding(predicate::specs::Checking::check_literal), using(words::specs::WordLaws::length_words, predicate::specs::CheckingLaws::passes_number))]
 pub fn check_literal(
     r: &Request<'_>,
     pattern: bool,
@@ -223,15 +226,16 @@ pub fn check(r: &Request<'_>, depth: usize, s: Progress) -> Result<Progress, Ref
 {
     let n = judge(r, depth, s)?;
     let t = s.after_node(words::word_or_zero(r.words, s.place));
+    let left = depth - 1;
     match n {
         Node::Constant(_) | Node::TruthColumn(_) | Node::IsNull(_) | Node::IsNotNull(_) => Ok(t),
         Node::Comparison(_, c, _, _, _) => check_literal(r, false, c, t),
-        Node::List(_, c, _, k) => check_literals(r, k, c, t),
+        Node::List(_, c, _, count) => check_literals(r, count, c, t),
         Node::Like(_, c, _) => check_literal(r, true, c, t),
-        Node::Not => check(r, depth - 1, t),
+        Node::Not => check(r, left, t),
         Node::Join(_) => {
-            let u = check(r, depth - 1, t)?;
-            check(r, depth - 1, u)
+            let u = check(r, left, t)?;
+            check(r, left, u)
         }
     }
 }
@@ -250,7 +254,7 @@ pub fn check_predicate(r: &Request<'_>) -> Result<(), Refusal>
 
 // Whether every schema byte is a type.
 fn types_fine(schema: &[u8]) -> bool
-    ensures { result ≡ types_fine schema.now }
+    ensures { result ≡ list_all (λ b. nat_le integer_type b && nat_le b truth_type) schema.now }
 {
     schema
         .iter()
@@ -258,6 +262,7 @@ fn types_fine(schema: &[u8]) -> bool
 }
 
 // Whether a schema has at most 64 columns, each of a known type.
+#[tactic(auto, using(crate::proofs::Laws::types_all))]
 pub fn schema_fine(schema: &[u8]) -> bool
     ensures { result ≡ schema_fine schema.now }
 {
