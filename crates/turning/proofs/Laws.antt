@@ -1,12 +1,12 @@
 -- The flips still to take of a comparison, and one of them taken. Assumes nothing.
-use Rattle.std.proofs.Common.{◌≡◌, refl, sym, ◌∙◌, ap, List, ℕ, zero, suc, ◌+◌, ◌-◌, ◌<◌, ◌≤◌, arith, ◌⊎◌, inl, inr}
-use Rattle.std.specs.Prelude.{ℤ, Option, Some, None, Bool, true, false}
+use Rattle.std.proofs.Common.{◌≡◌, refl, sym, ◌∙◌, ap, List, ℕ, suc, ◌+◌, ◌-◌, ◌<◌, ◌≤◌, arith, ◌⊎◌, inl, inr}
+use Rattle.std.specs.Prelude.{ℤ, Option, Some, None, Bool}
 use Rattle.operators.specs.declared.Operator.{Operator}
 use Rattle.operators.specs.declared.Operator.TheVariants.{Equal, NotEqual, Below, AtMost, Above, AtLeast, Distinct, NotDistinct}
 use Rattle.literals.specs.Signed.{negated}
 use Rattle.literals.specs.Literals.{Value, null, int, text, truth, value_of, LiteralFits, LiteralInside}
 use Rattle.literals.specs.declared.Literal.{Literal}
-use Rattle.table.specs.Comparisons.{Turned, asks, stays, minus_int, minus, minuses, negated_truth, flip_once, ordered, unturned, turned}
+use Rattle.table.specs.Comparisons.{Turned, asks, stays, minus_int, minus, minuses, flip_once, ordered, unturned, turned}
 use Rattle.turning.specs.Turns.{Turns, Negates}
 use Rattle.turning.specs.declared.Against.{Against}
 

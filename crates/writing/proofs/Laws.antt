@@ -1,6 +1,8 @@
 -- Nodes of one word, a literal's bytes, and a statistic against a literal. Assumes nothing.
 use mathlib.Core.Path.{◌≡◌, refl, ap, ◌∙◌}
-use mathlib.Core.Bool.{Bool}
+use mathlib.Core.Bool.{Bool, true, false}
+use Rattle.core.specs.Int.{from_bool}
+use Rattle.std.proofs.Common.{◌⊎◌, inl, inr}
 use mathlib.Core.List.{List, [], ◌∷◌}
 use Prim.Native.Nat.{ℕ, ◌+◌, ◌^◌, ◌≤◌, ◌<◌}
 use native.Mathlib.Nat.{add-zero}
@@ -12,17 +14,24 @@ use Rattle.words.specs.Pools.{Inside, Cut}
 use Rattle.words.specs.declared.Range.{Range}
 use Rattle.operators.specs.Operators.{code_of}
 use Rattle.operators.specs.declared.Operator.{Operator}
-use Rattle.literals.specs.declared.Literal.TheVariants.{Text}
-use Rattle.literals.specs.Literals.{text, LiteralFits, Value, value_bytes, value_word, bit_of}
+use Rattle.literals.specs.declared.Literal.{Literal}
+use Rattle.literals.specs.declared.Literal.TheVariants.{Null, Int, Text, Truth}
+use Rattle.literals.specs.Literals.{text, LiteralFits, Value, value_of, value_bytes, value_word, bit_of}
 use Rattle.statistics.specs.declared.Statistic.{Statistic}
+use Rattle.predicate.specs.declared.Column.{Column}
+use Rattle.statistics.specs.declared.Statistic.TheVariants.{Blanks, Rows}
 use Rattle.statistics.specs.Statistics.{place_of}
 use Rattle.table.specs.Tables.{Table, against}
-use Rattle.table.specs.Encoding.{table_word, against_kind, pool_of, table_words}
+use Rattle.kleene.specs.declared.Joining.TheVariants.{And}
+use Rattle.table.specs.Nests.{join_word}
+use Rattle.table.specs.Comparisons.{has_values}
+use Rattle.table.specs.Encoding.{table_word, differ_kind, against_kind, pool_of, table_words}
 use Rattle.table.specs.Measures.{table_width}
 use Rattle.listing.specs.Listing.{list_of}
 use Rattle.writing.specs.declared.Spot.{Spot}
 use Rattle.writing.specs.declared.Writer.{Writer}
-use Rattle.writing.specs.WritingLaws.{spots, words_then}
+use Rattle.writing.specs.WritingLaws.{wrap_words, spots, words_then}
+use Rattle.writing.specs.WriterLaws.{heads_by}
 use Rattle.writing.specs.Writing.{Wide, Room, Clipped, Head, Put, Wrote, HeadBy, WroteBy}
 
 -- a node of one word
@@ -66,6 +75,17 @@ clip_text pool r k h c =
     let s = c.short in
     record { same = ap text c.same; ready = record { inside = c.inside; fits = omega arith } }
 
+pub clip_other : (pool : List ℕ) (l : Literal) → ((r : Range) → l ≡ Text r → ⊥) → Clipped pool l l
+clip_other pool Null h = record { same = refl; ready = record { inside = tt; fits = tt } }
+clip_other pool (Int z) h = record { same = refl; ready = record { inside = tt; fits = tt } }
+clip_other pool (Text r) h = absurd (h r refl)
+clip_other pool (Truth b) h = record { same = refl; ready = record { inside = tt; fits = tt } }
+
+-- a null and a truth value have no bytes
+pub no_bytes : (pool : List ℕ) (l : Literal) → (l ≡ Null) ⊎ ((b : Bool) × (l ≡ Truth b)) → value_bytes (value_of pool l) ≡ []
+no_bytes pool l (inl e) = rw e
+no_bytes pool l (inr (b, e)) = rw e
+
 -- a node of one word, said of a writer
 pub leaf_by : (t : Table) (word : ℕ) (w v : Writer) → table_words (list_of w.list.now) w.at.off t ≡ word ∷ [] → pool_of t ≡ [] → table_width t ≡ 1
     → HeadBy (word ∷ []) w v → WroteBy t w v
@@ -74,3 +94,22 @@ leaf_by t word w v e p n h =
       wrote = rw h.pool (wrote_leaf t (list_of w.list.now) word w.at v.at w.table.now v.table.now w.pool.now e p n h.head);
       keeps = h.keeps;
     }
+
+pub bit_from : (b : Bool) → from_bool b ≡ bit_of b
+bit_from true = refl
+bit_from false = refl
+
+-- AND, and blanks ≠ rows behind it
+pub wrap_by : (c : Column) (w v x : Writer) → HeadBy (join_word And ∷ []) w v → WroteBy (has_values c) v x
+    → HeadBy (wrap_words (list_of w.list.now) c) w x
+unfolding table_words pool_of
+wrap_by c w v x h t =
+    let L = list_of w.list.now in
+    let e : table_words (list_of v.list.now) v.at.off (has_values c) ≡ table_word differ_kind 0 (place_of (Blanks c) L) (place_of Rows L) 0 ∷ [] =
+    rw h.keeps.list in
+    heads_by (join_word And ∷ []) (table_word differ_kind 0 (place_of (Blanks c) L) (place_of Rows L) 0 ∷ []) w v x h
+    (record {
+      head = record { answer = t.wrote.answer ∙ spots refl (add-zero v.at.off); table = t.wrote.table ∙ rw e };
+      pool = t.wrote.pool;
+      keeps = t.keeps;
+    })

@@ -1,7 +1,6 @@
 -- How written parts join, said of a writer before and after: WritingLaws with the writer's parts put in. Assumes nothing.
-use Rattle.std.specs.Prelude.{◌≡◌, List, [], ◌∷◌, ◌++◌, ℕ, ◌+◌, length}
+use Rattle.std.specs.Prelude.{List, [], ◌∷◌, ◌++◌, ℕ, ◌+◌, length}
 use Rattle.std.proofs.Common.{◌∙◌}
-use native.Mathlib.Omega.{arith}
 use Rattle.kleene.specs.declared.Joining.{Joining}
 use Rattle.predicate.specs.declared.Column.{Column}
 use Rattle.table.specs.Tables.{Table, both, negation}
@@ -10,7 +9,7 @@ use Rattle.table.specs.Nests.{join_word}
 use Rattle.table.specs.Measures.{table_width}
 use Rattle.listing.specs.Listing.{list_of, Few}
 use Rattle.writing.specs.declared.Writer.{Writer}
-use Rattle.writing.specs.Writing.{WideFor, RoomFor, Keeps, HeadBy, PutBy, WroteBy}
+use Rattle.writing.specs.Writing.{WideFor, RoomFor, Keeps, HeadBy, WroteBy}
 use Rattle.writing.specs.WritingLaws.{not_word, wrap_words, head_then, wrote_wrapped, wrote_negation, wrote_both, wide_head, wide_wrote, room_wrapped, room_negation, room_word, room_left, room_right}
 
 -- what is kept twice over

@@ -2,15 +2,20 @@
 use Rattle.std.specs.Prelude.{◌≡◌, List, ℕ, ◌+◌, ◌*◌, ◌^◌, ◌≤◌, ◌<◌, length}
 use Rattle.std.proofs.lemmas.List.Edits.{sets}
 use Rattle.words.specs.Word.{bytes_of}
-use Rattle.literals.specs.Literals.{value_of, LiteralFits, LiteralInside}
+use Rattle.literals.specs.Literals.{value_of, bit_of, LiteralFits, LiteralInside}
 use Rattle.literals.specs.declared.Literal.{Literal}
 use Rattle.statistics.specs.declared.Statistic.{Statistic}
 use Rattle.table.specs.Tables.{Table}
-use Rattle.table.specs.Encoding.{pool_of, table_words}
+use Rattle.table.specs.Encoding.{number_of_kind, table_word, pool_of, table_words}
 use Rattle.table.specs.Measures.{table_width}
 use Rattle.listing.specs.Listing.{list_of}
 use Rattle.writing.specs.declared.Spot.{Spot}
+use Rattle.writing.specs.declared.TableWord.{TableWord}
 use Rattle.writing.specs.declared.Writer.{Writer}
+
+-- the word of a node
+abbrev pub word_of : TableWord → ℕ
+word_of n = table_word (number_of_kind n.kind) n.operator n.first.0 n.second.0 (bit_of n.literal_first)
 
 -- room for n words more
 abbrev pub Wide : ℕ → Spot → List ℕ → Type 0

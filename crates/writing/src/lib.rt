@@ -1,18 +1,17 @@
 // Writers of a table's nodes into a lent table and a lent literal pool.
 #![tactic(auto)]
 
-ghost use Rattle.std.specs.Prelude.{◌≡◌, [], ◌∷◌, ◌+◌, ◌^◌, ◌≤◌, ◌<◌, length};
+ghost use Rattle.std.specs.Prelude.{◌≡◌, false, [], ◌∷◌, ◌+◌, ◌^◌, ◌≤◌, ◌<◌, length};
 ghost use Rattle.std.proofs.lemmas.List.Edits.{sets};
-ghost use Rattle.literals.specs.Literals.{LiteralFits, value_of, value_bytes, value_word, bit_of};
+ghost use Rattle.literals.specs.Literals.{LiteralFits, value_of, value_bytes, value_word};
 ghost use Rattle.statistics.specs.declared.Statistic.TheVariants.{Least, Greatest};
 ghost use Rattle.table.specs.Tables.{always, both, against, holds};
 ghost use Rattle.table.specs.Comparisons.{has_blanks, has_values};
 ghost use Rattle.table.specs.Rewriting.{column_table, not_column_table};
 ghost use Rattle.table.specs.Nests.{join_word};
-ghost use Rattle.table.specs.Encoding.{table_word};
 ghost use Rattle.statistics.specs.Statistics.{place_of};
 ghost use Rattle.listing.specs.Listing.{list_of, Few};
-ghost use Rattle.writing.specs.Writing.{Ready, Clipped, WideFor, RoomFor, HeadBy, PutBy, WroteBy};
+ghost use Rattle.writing.specs.Writing.{word_of, Ready, Clipped, WideFor, RoomFor, HeadBy, PutBy, WroteBy};
 ghost use Rattle.writing.specs.WritingLaws.{not_word, wrap_words};
 
 use kleene::Joining;
@@ -20,7 +19,7 @@ use literals::Literal;
 use operators::Operator;
 use predicate::Column;
 use statistics::{Place, Statistic};
-use words::Range;
+use table::Kind;
 
 // How far writing has come: words of the table, bytes of the pool.
 #[derive(Clone, Copy)]
@@ -38,46 +37,38 @@ pub struct Writer<'a> {
     pub at: Spot,
 }
 
-// Kinds of nodes in a rewritten table.
-const ALWAYS: u8 = 0;
-
-const AND: u8 = 1;
-
-const OR: u8 = 2;
-
-const AGAINST: u8 = 3;
-
-const POSITIVE: u8 = 4;
-
-const DIFFER: u8 = 5;
-
-const HOLDS: u8 = 6;
-
-const NEGATION: u8 = 7;
-
-// A byte as a number.
-fn wide(x: u8) -> u64
-    ensures { (result ≡ x) × (result < 256) }
-{
-    x as u64
+// What the word of a node holds; a kind that has not a field leaves it 0.
+#[derive(Clone, Copy, Default)]
+struct TableWord {
+    kind: Kind,
+    operator: u8,
+    first: Place,
+    second: Place,
+    literal_first: bool,
 }
 
-// A truth value as a number.
-fn bit(b: bool) -> u8
-    ensures { (result ≡ bit_of b) × (result < 2) }
-{
-    if b { 1 } else { 0 }
-}
+impl TableWord {
+    // A node of a kind, each other field 0.
+    fn of(kind: Kind) -> TableWord
+        ensures { result ≡ record { kind = kind; operator = 0; first = record { 0 = 0 }; second = record { 0 = 0 }; literal_first = false } }
+    {
+        TableWord {
+            kind,
+            ..TableWord::default()
+        }
+    }
 
-// The word of a node.
-fn node_word(kind: u8, operator: u8, first: Place, second: Place, left: bool) -> u64
-    requires { (kind < 16) × (operator < 16) }
-    ensures { result ≡ table_word kind operator first.0 second.0 (bit_of left) }
-{
-    let f = wide(first.0) * 281474976710656;
-    let s = wide(second.0) * 1099511627776;
-    let b = wide(bit(left)) * 549755813888;
-    wide(kind) * 1152921504606846976 + wide(operator) * 72057594037927936 + f + s + b
+    // The node's word.
+    fn word(self) -> u64
+        requires { self.operator < 16 }
+        ensures { result ≡ word_of self }
+    {
+        (u64::from(u8::from(self.kind)) << 60)
+            + (u64::from(self.operator) << 56)
+            + (u64::from(self.first.0) << 48)
+            + (u64::from(self.second.0) << 40)
+            + (u64::from(self.literal_first) << 39)
+    }
 }
 
 // A literal whose text is cut to what a pool has.
@@ -86,10 +77,8 @@ fn clip(input: &[u8], l: Literal) -> Literal
     ensures { Clipped input.now l result }
 {
     match l {
-        Literal::Null => l,
-        Literal::Int(_) => l,
         Literal::Text(r) => Literal::Text(words::clip(input, r)),
-        Literal::Truth(_) => l,
+        _ => l,
     }
 }
 
@@ -99,22 +88,19 @@ fn put_bytes(input: &[u8], l: Literal, pool: &mut [u8], off: usize) -> usize
     ensures { (result ≡ off + length (value_bytes (value_of input.now l))) × (pool.new ≡ sets pool.old off (value_bytes (value_of input.now l))) }
 {
     match l {
-        Literal::Null => off,
         Literal::Int(x) => {
             words::put_word(pool, off, literals::to_word(x));
-            off + 8
+            off + Literal::INTEGER_BYTES
         }
         Literal::Text(r) => {
-            let at = r.at;
-            let len = r.len;
-            words::copy_part(input, at, len, pool, off);
-            off + len
+            words::copy_part(input, r.at, r.len, pool, off);
+            off + r.len
         }
-        Literal::Truth(_) => off,
+        Literal::Null | Literal::Truth(_) => off,
     }
 }
 
-impl<'a> Writer<'a> {
+impl Writer<'_> {
     // Puts a word.
     fn put(&mut self, word: u64)
         requires { WideFor 1 self.old }
@@ -125,11 +111,11 @@ impl<'a> Writer<'a> {
     }
 
     // Puts a node's word.
-    fn put_node(&mut self, kind: u8, operator: u8, first: Place, second: Place, left: bool)
-        requires { (kind < 16) × (operator < 16) × WideFor 1 self.old }
-        ensures { HeadBy (table_word kind operator first.0 second.0 (bit_of left) ∷ []) self.old self.new }
+    fn put_node(&mut self, node: TableWord)
+        requires { (node.operator < 16) × WideFor 1 self.old }
+        ensures { HeadBy (word_of node ∷ []) self.old self.new }
     {
-        self.put(node_word(kind, operator, first, second, left));
+        self.put(node.word());
     }
 
     // The place of a statistic in the list.
@@ -146,8 +132,8 @@ impl<'a> Writer<'a> {
         ensures { HeadBy (join_word j ∷ []) self.old self.new }
     {
         match j {
-            Joining::And => self.put_node(AND, 0, Place(0), Place(0), false),
-            Joining::Or => self.put_node(OR, 0, Place(0), Place(0), false),
+            Joining::And => self.put_node(TableWord::of(Kind::And)),
+            Joining::Or => self.put_node(TableWord::of(Kind::Or)),
         }
     }
 
@@ -156,7 +142,7 @@ impl<'a> Writer<'a> {
         requires { WideFor 1 self.old }
         ensures { HeadBy (not_word ∷ []) self.old self.new }
     {
-        self.put_node(NEGATION, 0, Place(0), Place(0), false);
+        self.put_node(TableWord::of(Kind::Negation));
     }
 
     // Writes false or true.
@@ -164,7 +150,10 @@ impl<'a> Writer<'a> {
         requires { WideFor 1 self.old }
         ensures { WroteBy (always b) self.old self.new }
     {
-        self.put_node(ALWAYS, bit(b), Place(0), Place(0), false);
+        self.put_node(TableWord {
+            operator: u8::from(b),
+            ..TableWord::of(Kind::Always)
+        });
     }
 
     // Writes blanks > 0.
@@ -173,7 +162,10 @@ impl<'a> Writer<'a> {
         ensures { WroteBy (has_blanks c) self.old self.new }
     {
         let blanks = self.place_of(Statistic::Blanks(c));
-        self.put_node(POSITIVE, 0, blanks, Place(0), false);
+        self.put_node(TableWord {
+            first: blanks,
+            ..TableWord::of(Kind::Positive)
+        });
     }
 
     // Writes blanks ≠ rows.
@@ -183,7 +175,11 @@ impl<'a> Writer<'a> {
     {
         let blanks = self.place_of(Statistic::Blanks(c));
         let rows = self.place_of(Statistic::Rows);
-        self.put_node(DIFFER, 0, blanks, rows, false);
+        self.put_node(TableWord {
+            first: blanks,
+            second: rows,
+            ..TableWord::of(Kind::Differ)
+        });
     }
 
     // Writes AND and blanks ≠ rows, in front of what is wrapped.
@@ -192,9 +188,7 @@ impl<'a> Writer<'a> {
         ensures { HeadBy (wrap_words (list_of self.old.list.now) c) self.old self.new }
     {
         self.put_join(Joining::And);
-        let blanks = self.place_of(Statistic::Blanks(c));
-        let rows = self.place_of(Statistic::Rows);
-        self.put_node(DIFFER, 0, blanks, rows, false);
+        self.column_has_non_nulls_expr(c);
     }
 
     // Writes a truth-value statistic.
@@ -202,8 +196,11 @@ impl<'a> Writer<'a> {
         requires { Few self.old.list.now × WideFor 1 self.old }
         ensures { WroteBy (holds x) self.old self.new }
     {
-        let place = self.place_of(x);
-        self.put_node(HOLDS, 0, place, Place(0), false);
+        let first = self.place_of(x);
+        self.put_node(TableWord {
+            first,
+            ..TableWord::of(Kind::Holds)
+        });
     }
 
     // Writes least and greatest of a truth-value column, joined.
@@ -257,7 +254,12 @@ impl<'a> Writer<'a> {
     {
         let k = clip(input, l);
         let place = self.place_of(x);
-        self.put_node(AGAINST, o.code(), place, Place(0), first);
+        self.put_node(TableWord {
+            operator: o.code(),
+            first: place,
+            literal_first: first,
+            ..TableWord::of(Kind::Against)
+        });
         self.put_literal(input, k);
     }
 }

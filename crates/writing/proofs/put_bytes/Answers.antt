@@ -6,7 +6,7 @@ use mir.Syntax.{w64}
 use mir.Val.{SFits}
 use mir.Facts.{to_z-of_z}
 use Rattle.words.specs.WordLaws.{length_word}
-use Rattle.writing.proofs.Laws.{range_length}
+use Rattle.writing.proofs.Laws.{range_length, no_bytes}
 use Rattle.writing.proofs.put_bytes.Goals as goal
 
 pub put_word-requires : goal.put_word-requires
@@ -29,10 +29,6 @@ overflow_add-result-in-Text c =
     let h = rw (c.in-Text.is, range_length c.args.input.now c.in-Text.r i) at c.requires.1 in
     search rules
 
-pub returns-in-Null : goal.returns-in-Null
-returns-in-Null c =
-    rw c.in-Null.is (sym (add-zero c.args.off), refl)
-
 pub returns-in-Int : goal.returns-in-Int
 returns-in-Int c =
     let x : SFits w64 c.in-Int.x = search rules in
@@ -43,6 +39,5 @@ returns-in-Text c =
     let i = rw c.in-Text.is at c.requires.0.inside in
     rw c.in-Text.is (rw (range_length c.args.input.now c.in-Text.r i), c.copy_part.ensures)
 
-pub returns-in-Truth : goal.returns-in-Truth
-returns-in-Truth c =
-    rw c.in-Truth.is (sym (add-zero c.args.off), refl)
+pub returns-in-Null : goal.returns-in-Null
+returns-in-Null c = rw (no_bytes c.args.input.now c.args.l c.in-Null.is) (sym (add-zero c.args.off), refl)

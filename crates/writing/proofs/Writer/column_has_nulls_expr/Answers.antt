@@ -8,4 +8,4 @@ use Rattle.writing.proofs.Writer.column_has_nulls_expr.Goals as goal
 pub returns : goal.returns
 unfolding table_words pool_of
 returns c =
-    leaf_by (has_blanks c.args.c) _ _ _ refl refl refl (rw c.place_of-blanks.ensures at c.put_node.ensures)
+    leaf_by (has_blanks c.args.c) _ _ _ refl refl refl (rw (c.place_of-blanks.ensures, c.of.ensures) at c.put_node.ensures)

@@ -1,5 +1,5 @@
 -- One word at the spot. Assumes nothing.
-use Rattle.std.proofs.Common.{◌≡◌, refl, ◌∙◌}
+use Rattle.std.proofs.Common.{refl, ◌∙◌}
 use native.Mathlib.Omega.{arith}
 use Rattle.words.specs.WordLaws.{bytes_one}
 use Rattle.writing.proofs.Writer.put.Goals as goal

@@ -1,7 +1,6 @@
 -- A word, and bytes. Assumes nothing.
-use Rattle.std.proofs.Common.{◌∙◌, rules, refl}
+use Rattle.std.proofs.Common.{◌∙◌}
 use Rattle.literals.specs.LiteralLaws.{literal_word_value}
-use Rattle.writing.specs.Writing.{Put, Keeps}
 use Rattle.writing.proofs.Writer.put_literal.Goals as goal
 
 pub put_bytes-self-requires : goal.put_bytes-self-requires

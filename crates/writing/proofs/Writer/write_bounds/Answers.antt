@@ -1,5 +1,5 @@
 -- A join's word, then its sides. Assumes nothing.
-use Rattle.std.proofs.Common.{rules, [], ◌∷◌}
+use Rattle.std.proofs.Common.{[], ◌∷◌}
 use native.Mathlib.Omega.{arith}
 use Rattle.statistics.specs.declared.Statistic.TheVariants.{Least, Greatest}
 use Rattle.table.specs.Tables.{holds}

@@ -8,4 +8,4 @@ use Rattle.writing.proofs.Writer.write_holds.Goals as goal
 pub returns : goal.returns
 unfolding table_words pool_of
 returns c =
-    leaf_by (holds c.args.x) _ _ _ refl refl refl (rw c.place_of-place.ensures at c.put_node.ensures)
+    leaf_by (holds c.args.x) _ _ _ refl refl refl (rw (c.place_of-first.ensures, c.of.ensures) at c.put_node.ensures)

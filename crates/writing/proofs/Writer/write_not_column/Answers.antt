@@ -1,6 +1,5 @@
 -- A NOT's word, then the column's join. Assumes nothing.
-use Rattle.std.proofs.Common.{rules, [], ◌∷◌}
-use native.Mathlib.Omega.{arith}
+use Rattle.std.proofs.Common.{[], ◌∷◌}
 use Rattle.kleene.specs.declared.Joining.TheVariants.{And}
 use Rattle.statistics.specs.declared.Statistic.TheVariants.{Least, Greatest}
 use Rattle.table.specs.Tables.{both, holds}
