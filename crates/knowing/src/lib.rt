@@ -37,14 +37,12 @@ pub fn folds(j: Joining, l: Known, r: Known) -> Folded
     ensures { result ≡ folds_of j l r }
 {
     match (j, l, r) {
-        (Joining::And, Known::False, _) | (Joining::And, Known::Open, Known::False) =>
-            Folded::Fixed(false),
-        (Joining::Or, Known::True, _) | (Joining::Or, Known::Open, Known::True) => Folded::Fixed(
-            true,
-        ),
-        (Joining::And, Known::True, _) | (Joining::Or, Known::False, _) => Folded::Right,
-        (Joining::And, Known::Open, Known::True) | (Joining::Or, Known::Open, Known::False) =>
-            Folded::Left,
+        (Joining::And, Known::False, _) => Folded::Fixed(false),
+        (Joining::Or, Known::True, _) => Folded::Fixed(true),
+        (_, Known::True | Known::False, _) => Folded::Right,
+        (Joining::And, _, Known::False) => Folded::Fixed(false),
+        (Joining::Or, _, Known::True) => Folded::Fixed(true),
+        (_, _, Known::True | Known::False) => Folded::Left,
         (_, Known::Open, Known::Open) => Folded::Both,
     }
 }
@@ -121,12 +119,9 @@ pub fn known_like(pool: &[u8], negated: bool, l: Literal) -> Known
     requires { Pattern (value_of pool.now l) }
     ensures { result ≡ known_like negated (value_of pool.now l) }
 {
-    if negated {
-        return Known::True;
-    }
     match l {
-        Literal::Text(r) => known_pattern(clipped(pool, r)),
-        Literal::Null | Literal::Int(_) | Literal::Truth(_) => Known::True,
+        Literal::Text(r) if !negated => known_pattern(clipped(pool, r)),
+        _ => Known::True,
     }
 }
 
