@@ -1,6 +1,7 @@
 -- Tables written one after the other, the members of a list from the i-th on, and a list's form. Assumes nothing.
 use mathlib.Core.Path.{◌≡◌, refl, sym, ◌∙◌, ap}
 use mathlib.Core.Bool.{Bool, true, false, cond, ◌&&◌, true≢false, false≢true}
+use mathlib.Core.Logic.{◌⊎◌, inl, inr}
 use mathlib.Core.List.{List, [], ◌∷◌, ◌++◌, append_assoc, append-nil}
 use Prim.Native.Nat.{ℕ, zero, suc, ◌+◌, ◌-◌, ◌≤◌, ◌<◌}
 use native.Mathlib.Nat.{add_assoc, add-zero}
@@ -29,7 +30,7 @@ use Rattle.table.specs.Constants.{solid_open, form_solid}
 use Rattle.table.specs.Rewriting.{list_operator, list_joining, nested_table, list_table}
 use Rattle.table.specs.Nests.{nest, join_word, run_words, run_pool, nest_words, nest_pool, is_open, kept_if, opens, all_open, nest_of, list_fold, member_table, member_tables}
 use Rattle.table.proofs.Nests.{nested_folds}
-use Rattle.knowing.specs.Knowns.{list_within, member_known}
+use Rattle.knowing.specs.Knowns.{list_none, list_over, list_within, member_known}
 use Rattle.turning.specs.Turns.{Turns}
 use Rattle.turning.specs.declared.Against.{Against}
 use Rattle.listing.specs.Listing.{list_of}
@@ -340,8 +341,8 @@ fold_is false t ts = go (all_open (t ∷ ts)) refl
         go₂ zero lt = refl
         go₂ (suc m) lt = rw (ne_eqb (suc m) 0 (λ z. omega arith), ne_eqb (suc m) (suc (length ts)) (λ z. omega arith))
 
-pub form_some : (b : Bool) (m n : ℕ) → has_form b m n ≡ true → 0 < m
-form_some b zero n e = absurd (false≢true e)
+pub form_some : (b : Bool) (m n : ℕ) → true ≡ has_form b m n → 0 < m
+form_some b zero n e = absurd (true≢false e)
 form_some b (suc m) n e = omega arith
 
 module _ (limit : ℕ) (schema pool ws : List ℕ) (b : Bool) (c : Column) (flips k at : ℕ) where
@@ -366,10 +367,17 @@ module _ (limit : ℕ) (schema pool ws : List ℕ) (b : Bool) (c : Column) (flip
       let n : length (values_at pool ws k at) ≡ k = length_values pool ws k at in
       list_within limit schema pool ws b c flips k at h ∙ (rw n at (nested_is (values_at pool ws k at) (omega arith) m e))
 
-  pub list_form : (m : ℕ) → (k ≡ 0 → ⊥) → k ≤ limit → m ≡ length (open_at schema pool ws b c flips k at) → has_form b m k ≡ true
-      → table ≡ nest_of (list_joining b) (open_at schema pool ws b c flips k at)
-  list_form m z h e f = list_nested m z h e ∙ rw f
+  -- no literals, or more than the limit
+  pub list_outside : (k ≡ 0) ⊎ (limit < k) → table ≡ always true
+  list_outside (inl e) = list_none limit schema pool ws b c flips k at e
+  list_outside (inr h) = list_over limit schema pool ws b c flips k at h
 
-  pub list_unhandled : (m : ℕ) → (k ≡ 0 → ⊥) → k ≤ limit → m ≡ length (open_at schema pool ws b c flips k at) → has_form b m k ≡ false
-      → table ≡ always true
-  list_unhandled m z h e f = list_nested m z h e ∙ rw f
+  module _ (m n : ℕ) (same : n ≡ k) (z : n ≡ 0 → ⊥) (h : n ≤ limit) (e : m ≡ length (open_at schema pool ws b c flips k at)) where
+    formed : table ≡ cond (has_form b m n) (nest_of (list_joining b) (open_at schema pool ws b c flips k at)) (always true)
+    formed = rw same (list_nested m (λ q. z (same ∙ q)) (rw same at h) e)
+
+    pub list_form : true ≡ has_form b m n → table ≡ nest_of (list_joining b) (open_at schema pool ws b c flips k at)
+    list_form f = formed ∙ rw (← f)
+
+    pub list_unhandled : false ≡ has_form b m n → table ≡ always true
+    list_unhandled f = formed ∙ rw (← f)

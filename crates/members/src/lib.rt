@@ -30,11 +30,11 @@ fn count_open(r: &Request<'_>, m: Members) -> usize
         .count()
 }
 
-// Whether a list has a form, open of its n members being open.
-fn has_form(negated: bool, open: usize, n: usize) -> bool
-    ensures { result ≡ has_form negated open n }
+// Whether a list has a form where so many of its n members stay.
+fn has_form(negated: bool, staying: usize, n: usize) -> bool
+    ensures { result ≡ has_form negated staying n }
 {
-    open != 0 && (negated || open == n)
+    staying != 0 && (negated || staying == n)
 }
 
 // Puts the words of k joins.
@@ -70,12 +70,12 @@ fn write_members(r: &Request<'_>, w: &mut Writer<'_>, m: Members)
     }
 }
 
-// Writes the members that stay, open of them, joined from the left.
-fn write_nest(r: &Request<'_>, w: &mut Writer<'_>, m: Members, open: usize)
-    requires { Few w.old.list.now × Near r.now.words.now m.at × (open ≡ length (open_at r.now.schema.now r.now.pool.now (words_of r.now.words.now) m.negated m.column m.flips m.count (m.at + 1))) × (0 < open) × RoomFor (nest_of (list_joining m.negated) (open_at r.now.schema.now r.now.pool.now (words_of r.now.words.now) m.negated m.column m.flips m.count (m.at + 1))) w.old }
+// Writes the members that stay, joined from the left.
+fn write_nest(r: &Request<'_>, w: &mut Writer<'_>, m: Members, staying: usize)
+    requires { Few w.old.list.now × Near r.now.words.now m.at × (staying ≡ length (open_at r.now.schema.now r.now.pool.now (words_of r.now.words.now) m.negated m.column m.flips m.count (m.at + 1))) × (0 < staying) × RoomFor (nest_of (list_joining m.negated) (open_at r.now.schema.now r.now.pool.now (words_of r.now.words.now) m.negated m.column m.flips m.count (m.at + 1))) w.old }
     ensures { WroteBy (nest_of (list_joining m.negated) (open_at r.now.schema.now r.now.pool.now (words_of r.now.words.now) m.negated m.column m.flips m.count (m.at + 1))) w.old w.new }
 {
-    put_joins(w, knowing::list_joining(m.negated), open - 1);
+    put_joins(w, knowing::list_joining(m.negated), staying - 1);
     write_members(r, w, m);
 }
 
@@ -89,9 +89,9 @@ pub fn write_list(r: &Request<'_>, w: &mut Writer<'_>, m: Members)
         w.write_always(true);
         return;
     }
-    let open = count_open(r, m);
-    if has_form(m.negated, open, n) {
-        write_nest(r, w, m, open);
+    let staying = count_open(r, m);
+    if has_form(m.negated, staying, n) {
+        write_nest(r, w, m, staying);
     } else {
         w.write_always(true);
     }

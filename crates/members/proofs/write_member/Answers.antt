@@ -4,18 +4,21 @@ use Rattle.members.proofs.write_member.Goals as goal
 
 pub write_comparison-requires : goal.write_comparison-requires
 write_comparison-requires c =
+    let m = c.args.m in
     let t = rw (c.type_in-kind.ensures, c.list_operator-o.ensures) at c.turn.ensures in
-    let e = against_opens c.args.schema.now c.args.input.now c.args.negated c.args.c c.args.flips c.args.l _ t _ _ c.in-Against.is in
-    (c.requires.0, rw c.in-Against.is at (t.fits c.requires.1), room_one _ _ _ _ (rw e at c.requires.2))
+    let e = against_opens c.args.r.now.schema.now c.args.r.now.pool.now m.negated m.column m.flips c.args.l _ t _ c.in-Some.is in
+    (c.requires.0, rw c.in-Some.is at (t.fits c.requires.1), room_one _ c.args.w.now (rw e at c.requires.2))
 
-pub returns-in-Against : goal.returns-in-Against
-returns-in-Against c =
+pub returns-in-Some : goal.returns-in-Some
+returns-in-Some c =
+    let m = c.args.m in
     let t = rw (c.type_in-kind.ensures, c.list_operator-o.ensures) at c.turn.ensures in
-    let e = against_opens c.args.schema.now c.args.input.now c.args.negated c.args.c c.args.flips c.args.l _ t _ _ c.in-Against.is in
-    rw e (ran_one _ _ _ _ _ _ _ _ c.write_comparison.ensures)
+    let e = against_opens c.args.r.now.schema.now c.args.r.now.pool.now m.negated m.column m.flips c.args.l _ t _ c.in-Some.is in
+    rw e (ran_one _ _ _ c.write_comparison.ensures)
 
-pub returns-in-Unhandled : goal.returns-in-Unhandled
-returns-in-Unhandled c =
+pub returns-in_default : goal.returns-in_default
+returns-in_default c =
+    let m = c.args.m in
     let t = rw (c.type_in-kind.ensures, c.list_operator-o.ensures) at c.turn.ensures in
-    let e = unhandled_opens c.args.schema.now c.args.input.now c.args.negated c.args.c c.args.flips c.args.l _ t c.in-Unhandled.is in
-    rw e (ran_none _ _ _ _)
+    let e = unhandled_opens c.args.r.now.schema.now c.args.r.now.pool.now m.negated m.column m.flips c.args.l _ t c.in_default.is in
+    rw e (ran_none _)
