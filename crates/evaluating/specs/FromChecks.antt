@@ -15,11 +15,8 @@ use Rattle.words.specs.Word.{words_of}
 use Rattle.words.specs.WordLaws.{AllBelow, below_tail, words_below}
 use Rattle.operators.specs.Operators.{operator_of}
 use Rattle.operators.specs.declared.Operator.{Operator}
-use Rattle.kleene.specs.declared.Joining.TheVariants.{And, Or}
-use Rattle.literals.specs.Literals.{literal_of}
 use Rattle.literals.specs.declared.Literal.{Literal}
 use Rattle.predicate.specs.Nodes.{or_equal}
-use Rattle.predicate.specs.Checking.{unused_zero}
 use Rattle.table.specs.Encoding.{kind_named}
 use Rattle.table.specs.declared.Kind.{Kind}
 use Rattle.table.specs.declared.Kind.TheVariants as Kinds
@@ -29,10 +26,9 @@ use Rattle.statistics.specs.declared.Place.{Place}
 use Rattle.statistics.specs.declared.Statistic.{Statistic}
 use Rattle.statistics.specs.declared.Statistic.TheVariants.{Least, Greatest, Blanks, Rows}
 use Rattle.predicate.specs.declared.Column.{Column}
-use Rattle.pruning.specs.TableReading.{kind_of, operator_field, first_field, second_field, literal_first_field, first_of, second_of, statistic_at, table_node_of, node_table, table_node_at, table_at}
-use Rattle.pruning.specs.TableReading as Reading
+use Rattle.pruning.specs.TableReading.{kind_of, operator_field, statistic_at, table_node_of, node_table, table_node_at, table_at}
 use Rattle.pruning.specs.NodeLaws.{node_by, node_kinds, shape_by, formed_so, formed_kinds}
-use Rattle.pruning.specs.TableChecking.{statistic_fine, stands_in, statistics_fine, guarantees_fine, table_shape_of, table_formed, is_bound, is_blanks, is_rows, named, table_named, table_node_fine, table_behind, then_at, check_table_from, ends, table_fine, words_within, checked_table}
+use Rattle.pruning.specs.TableChecking.{statistic_fine, stands_in, statistics_fine, guarantees_fine, table_formed, is_bound, is_blanks, is_rows, named, table_named, table_node_fine, table_behind, then_at, check_table_from, ends, table_fine, words_within, checked_table}
 use Rattle.pruning.specs.declared.TableNode.{TableNode}
 use Rattle.pruning.specs.declared.TableNode.TheVariants.{Always, Join, Against, Positive, Differ, Holds, Negation}
 use Rattle.comparing.specs.Comparing.{Asks}

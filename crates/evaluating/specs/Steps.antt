@@ -1,5 +1,5 @@
 -- One node on a row of cells, without its children, and what it says of the table that it begins. Assumes nothing.
-use Rattle.std.specs.Prelude.{◌≡◌, Some, Bool, true, false, List, ℕ, ◌+◌, ◌-◌, ◌/◌, ◌≤◌, ◌<◌, length, get_or, eqb, pos}
+use Rattle.std.specs.Prelude.{◌≡◌, Some, Bool, true, false, List, ℕ, ◌+◌, ◌-◌, ◌/◌, ◌≤◌, ◌<◌, length, get_or, pos}
 use Rattle.std.proofs.Math.Path.{refl, ap}
 use Rattle.std.proofs.Common.{sym, ◌∙◌}
 use Rattle.std.proofs.lemmas.Bool.{false≢true}
@@ -23,7 +23,7 @@ use Rattle.statistics.specs.declared.Statistic.{Statistic}
 use Rattle.table.specs.Worth.{worth}
 use Rattle.table.specs.Encoding.{kind_named}
 use Rattle.table.specs.declared.Kind.TheVariants as Kind
-use Rattle.pruning.specs.TableReading.{kind_of, operator_field, literal_first_field, first_of, second_of, TableRead, table_node_of, node_table, table_node_at, table_at, table_node}
+use Rattle.pruning.specs.TableReading.{kind_of, operator_field, TableRead, table_node_of, node_table, table_node_at, table_at, table_node}
 use Rattle.pruning.specs.NodeLaws.{node_by, node_kinds}
 use Rattle.pruning.specs.declared.TableNode.{TableNode}
 use Rattle.pruning.specs.declared.TableNode.TheVariants.{Always, Join, Against, Positive, Differ, Holds, Negation}

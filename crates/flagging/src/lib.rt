@@ -1,33 +1,57 @@
 // Flags: which containers are dropped, by their tables and by answers.
 #![tactic(auto)]
 
-ghost use Rattle.std.specs.Prelude.{◌≡◌, ◌+◌, ◌/◌, ◌^◌, ◌<◌, length, get_or};
+ghost use Rattle.std.specs.Prelude.{◌≡◌, eqb, ◌+◌, ◌/◌, ◌^◌, ◌<◌, length, get_or};
 ghost use Rattle.std.proofs.lemmas.List.Edits.{sets};
 ghost use Rattle.limits.specs.Limits.{max_table_depth};
 ghost use Rattle.words.specs.Word.{words_of};
 ghost use Rattle.table.specs.Worth.{worth};
-ghost use Rattle.guarantees.specs.Guarantees.{answer_drops};
+ghost use Rattle.guarantees.specs.Guarantees.{answer_drops, not_in_field};
 ghost use Rattle.pruning.specs.TableReading.{table_at};
-ghost use Rattle.pruning.specs.Evaluating.{is_false, answers_drop, flag_of};
+ghost use Rattle.pruning.specs.Evaluating.{answers_drop, flag_of};
 ghost use Rattle.cells.specs.Grids.{list_of};
 ghost use Rattle.evaluating.specs.Rows.{row_cells};
 ghost use Rattle.evaluating.specs.Ready.{Ready};
 ghost use Rattle.flagging.specs.Flags.{Fits, flags_for};
 
+use evaluating::Container;
 use kleene::Truth;
+
+// A pruning call's inputs but for its schema: a checked table with its lists, and so many containers' rows, cells and answers.
+#[derive(Clone, Copy)]
+pub struct Call<'a> {
+    pub table: &'a [u8],
+    pub pool: &'a [u8],
+    pub list: &'a [u8],
+    pub guarantees: &'a [u8],
+    pub containers: usize,
+    pub grid: &'a [u8],
+    pub cells: &'a [u8],
+    pub answers: &'a [u8],
+}
 
 // Whether an answer drops: 2 for In, 1 for NotIn.
 fn answer_drops(not_in: bool, a: u8) -> bool
     ensures { result ≡ answer_drops not_in a }
 {
-    if not_in { a == 1 } else { a == 2 }
+    a == if not_in { 1 } else { 2 }
 }
 
 // The answer at a place; 0 past the end.
 fn answer_at(answers: &[u8], at: usize) -> u8
     ensures { result ≡ get_or answers.now at 0 }
 {
-    if at < answers.len() { answers[at] } else { 0 }
+    answers.get(at).copied().unwrap_or(0)
+}
+
+// Whether the answer at a place drops by the guarantee of a word.
+fn drops_at(answers: &[u8], guarantee: u64, at: usize) -> bool
+    ensures { result ≡ answer_drops (eqb (not_in_field guarantee) 1) (get_or answers.now at 0) }
+{
+    answer_drops(
+        words::field::<55, 1>(guarantee) == 1,
+        answer_at(answers, at),
+    )
 }
 
 // Whether some guarantee's answer drops; the first one's stands at a place of the answers.
@@ -35,81 +59,41 @@ pub fn answers_drop(answers: &[u8], guarantees: &[u8], at: usize) -> bool
     requires { at + length guarantees.now / 8 < 2 ^ 64 }
     ensures { result ≡ answers_drop answers.now (words_of guarantees.now) at }
 {
-    let mut i = 0;
-    while i < guarantees.len() / 8 {
-        let g = words::word_or_zero(guarantees, i);
-        if answer_drops(g / 36028797018963968 % 2 == 1, answer_at(answers, at + i)) {
-            return true;
-        }
-        i += 1;
-    }
-    false
-}
-
-// Whether a truth value is false.
-fn is_false(t: Truth) -> bool
-    ensures { result ≡ is_false t }
-{
-    match t {
-        Truth::False => true,
-        Truth::Unknown => false,
-        Truth::True => false,
-    }
+    (0..guarantees.len() / 8).any(|i| drops_at(answers, words::word_or_zero(guarantees, i), at + i))
 }
 
 // The flag of a container: 0 drops, 1 keeps.
 pub fn flag_of(t: Truth, dropped: bool) -> u8
     ensures { result ≡ flag_of t dropped }
 {
-    if is_false(t) {
-        return 0;
-    }
-    if dropped { 0 } else { 1 }
+    u8::from(!matches!(t, Truth::False) && !dropped)
 }
 
 // The flag of the container with this row of cells; its answers begin at a place.
-pub fn container_flag<'a>(
-    list: &[u8],
-    pool: &'a [u8],
-    table: &[u8],
-    guarantees: &[u8],
-    cells: &'a [u8],
-    row: &[u8],
-    answers: &[u8],
-    at: usize,
-) -> u8
-    requires { Ready (list_of list.now) pool.now (words_of table.now) max_table_depth 0 × (at + length guarantees.now / 8 < 2 ^ 64) }
-    ensures { result ≡ flag_of (worth (row_cells cells.now (list_of list.now) (words_of row.now)) (table_at (list_of list.now) pool.now (words_of table.now) max_table_depth 0).table) (answers_drop answers.now (words_of guarantees.now) at) }
+pub fn container_flag(c: &Call<'_>, row: &[u8], at: usize) -> u8
+    requires { Ready (list_of c.now.list.now) c.now.pool.now (words_of c.now.table.now) max_table_depth 0 × (at + length c.now.guarantees.now / 8 < 2 ^ 64) }
+    ensures { result ≡ flag_of (worth (row_cells c.now.cells.now (list_of c.now.list.now) (words_of row.now)) (table_at (list_of c.now.list.now) c.now.pool.now (words_of c.now.table.now) max_table_depth 0).table) (answers_drop c.now.answers.now (words_of c.now.guarantees.now) at) }
 {
-    let t = evaluating::evaluate(list, pool, table, cells, row);
-    flag_of(t, answers_drop(answers, guarantees, at))
+    let container = Container {
+        table: c.table,
+        pool: c.pool,
+        row,
+        cells: c.cells,
+    };
+    let t = evaluating::evaluate(c.list, &container);
+    flag_of(t, answers_drop(c.answers, c.guarantees, at))
 }
 
 // Writes the flag of each container; the grid holds a row for each.
-pub fn prune_flags<'a>(
-    list: &[u8],
-    pool: &'a [u8],
-    table: &[u8],
-    guarantees: &[u8],
-    cells: &'a [u8],
-    grid: &[u8],
-    answers: &[u8],
-    containers: usize,
-    flags: &mut [u8],
-)
-    requires { Fits list.now pool.now table.now guarantees.now grid.now containers (length flags.old) }
-    ensures { flags.new ≡ sets flags.old 0 (flags_for list.now pool.now table.now guarantees.now cells.now grid.now answers.now 0 containers) }
+pub fn prune_flags(c: &Call<'_>, flags: &mut [u8])
+    requires { Fits c.now.list.now c.now.pool.now c.now.table.now c.now.guarantees.now c.now.grid.now c.now.containers (length flags.old) }
+    ensures { flags.new ≡ sets flags.old 0 (flags_for c.now.list.now c.now.pool.now c.now.table.now c.now.guarantees.now c.now.cells.now c.now.grid.now c.now.answers.now 0 c.now.containers) }
 {
-    let wide = 8 * (list.len() / 8);
-    let each = guarantees.len() / 8;
-    let mut i = 0;
-    let mut from = 0;
-    let mut at = 0;
-    while i < containers {
-        let row = &grid[from..from + wide];
-        flags[i] = container_flag(list, pool, table, guarantees, cells, row, answers, at);
-        from += wide;
-        at += each;
-        i += 1;
+    let wide = 8 * (c.list.len() / 8);
+    let each = c.guarantees.len() / 8;
+    for i in 0..c.containers {
+        let from = i * wide;
+        let row = &c.grid[from..from + wide];
+        flags[i] = container_flag(c, row, i * each);
     }
 }

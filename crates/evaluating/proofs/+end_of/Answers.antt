@@ -1,5 +1,5 @@
 -- By the kind of the word, with the ends of the children. Assumes nothing.
-use Rattle.std.proofs.Common.{rules, ◌≡◌, sym, ◌∙◌, ap, get_or, true, refl, None, Some}
+use Rattle.std.proofs.Common.{rules, ◌≡◌, sym, ◌∙◌, ap, get_or, true, Some}
 use Rattle.words.specs.Word.{words_of}
 use Rattle.table.specs.Encoding.{kind_named}
 use Rattle.pruning.specs.TableReading.{kind_of}

@@ -1,5 +1,5 @@
 -- One step, with what its children are worth. Assumes nothing.
-use Rattle.std.proofs.Common.{rules, sym, ◌∙◌, ◌/◌, ◌<◌, ◌≤◌, length, ℕ, List, arith}
+use Rattle.std.proofs.Common.{rules, sym, ◌∙◌}
 use Rattle.words.specs.Word.{words_of}
 use Rattle.pruning.specs.TableReading.{table_node_at}
 use Rattle.evaluating.specs.Steps.{evaluable_deep, evaluable_inside, leaf_short, ready_asks, leaf_worth_lem, both_left, both_right, both_worth, turned_child, turned_worth}

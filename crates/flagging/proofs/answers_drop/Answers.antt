@@ -1,30 +1,19 @@
--- What is left of the guarantees drops or not. Assumes nothing.
-use borrow.Author.Rules.{rules}
-use mathlib.Core.Path.{sym, ◌∙◌}
-use Prim.Native.Nat.{◌+◌}
-use native.Mathlib.Nat.{add-zero}
-use Rattle.flagging.specs.Flags.{drops_end, drops_here, drops_next}
+-- All guarantees, with their answers. Assumes nothing.
+use Prim.Native.Nat.{ℕ, ◌+◌, ◌/◌}
+use Rattle.std.specs.Prelude.{List, length}
+use Rattle.std.proofs.Common.{refl, sym, ◌∙◌, rules, arith, add-zero}
+use borrow.Author.Tests.{tests}
+use Rattle.std.proofs.lemmas.Iterator.{YieldsList-from_range}
+use Rattle.std.proofs.lemmas.Iterator.Search.{any_from_yields_List}
+use Rattle.words.specs.Word.{words_of}
+use Rattle.words.specs.WordLaws.{length_words}
+use Rattle.flagging.specs.Flags.{drops_at, drops_walked}
 use Rattle.flagging.proofs.answers_drop.Goals as goal
-
-pub loop-i-init : goal.loop-i-init
-loop-i-init c =
-    (search rules, rw add-zero)
-
-pub returns-then-answer_drops : goal.returns-then-answer_drops
-returns-then-answer_drops c =
-    let a = c.args in
-    sym (c.loop-i.invariant.1 ∙ drops_here a.answers.now a.guarantees.now c.loop-i.i a.at c.loop-i-test.true c.word_or_zero-g.result c.word_or_zero-g.ensures
-    c.answer_at.result c.answer_at.ensures c.answer_drops.result c.answer_drops.ensures c.if-answer_drops.true)
-
-pub loop-i-preserved : goal.loop-i-preserved
-loop-i-preserved c =
-    let a = c.args in (
-      search rules,
-      c.loop-i.invariant.1 ∙ drops_next a.answers.now a.guarantees.now c.loop-i.i a.at c.loop-i-test.true c.word_or_zero-g.result c.word_or_zero-g.ensures
-          c.answer_at.result c.answer_at.ensures c.answer_drops.result c.answer_drops.ensures c.if-answer_drops.false,
-    )
 
 pub returns : goal.returns
 returns c =
     let a = c.args in
-    sym (c.loop-i.invariant.1 ∙ drops_end a.answers.now a.guarantees.now c.loop-i.i (a.at + c.loop-i.i) c.loop-i-test.false)
+    let n : ℕ = length a.guarantees.now / 8 in
+    rw (add-zero a.at) at
+    (any_from_yields_List (drops_at a.answers.now a.guarantees.now a.at) _ _ c.any.result c.any.ensures.ran (YieldsList-from_range 0 n n refl (omega arith)) (λ x b q k. search (rules, tests))
+    ∙ drops_walked a.answers.now a.guarantees.now a.at n 0 (omega (arith, length_words a.guarantees.now)))
