@@ -1,13 +1,14 @@
 // Node checking: which refusal the bytes of a rewriting call get, word by word, 4 before 5 before 6 in a word.
 #![tactic(auto)]
 
-ghost use Rattle.std.specs.Prelude.{◌≡◌, ◌&&◌, length, ltb, nat_le};
+ghost use Rattle.std.specs.Prelude.{◌≡◌, ◌<◌, ◌≤◌, ◌&&◌, length, ltb, nat_le, MatchResult};
 ghost use Rattle.std.specs.List.{list_all};
 ghost use Rattle.limits.specs.Refusals.{fault_of};
+ghost use Rattle.limits.specs.declared.Refusal.TheVariants.{Malformed};
 ghost use Rattle.words.specs.Word.{words_of};
 ghost use Rattle.literals.specs.Literals.{integer_type, truth_type, suits};
 ghost use Rattle.predicate.specs.Checked.{outcome_of};
-ghost use Rattle.predicate.specs.Checking.{schema_fine, shape_of, formed, limited, first_fault, flippable, columned, literal_limited, patterned, literal_fault, check_literal, check_literals, check_from, predicate_fault};
+ghost use Rattle.predicate.specs.Checking.{word_here, schema_fine, shape_of, formed, limited, first_fault, flippable, columned, literal_limited, patterned, literal_fault, check_literal, check_literals, check_from, predicate_fault};
 ghost use Rattle.predicate.specs.Calls.{roomy, rewrite_fault};
 ghost use Rattle.checking.specs.Judging.{judged_of, judge_of};
 
@@ -86,7 +87,11 @@ fn first_fault(formed: bool, limited: bool, fitting: bool) -> Result<(), Refusal
     if !limited {
         return Err(Refusal::OverLimit);
     }
-    if fitting { Ok(()) } else { Err(Refusal::Misfit) }
+    if fitting {
+        Ok(())
+    } else {
+        Err(Refusal::Misfit)
+    }
 }
 
 // Whether a node word keeps the limits of depth, nodes and list literals.
@@ -128,15 +133,24 @@ pub fn columned(schema: &[u8], n: Node) -> bool
     }
 }
 
+// The word at the next place; 4 where it is missing.
+#[tactic(auto, using(words::specs::WordLaws::length_words))]
+fn word_here(r: &Request<'_>, s: Progress) -> Result<u64, Refusal>
+    ensures { MatchResult result (λ w. (s.place < length (words_of r.now.words.now)) × (w ≡ word_here r.now.schema.now r.now.pool.now (words_of r.now.words.now) s)) (λ e. (length (words_of r.now.words.now) ≤ s.place) × (e ≡ Malformed)) }
+{
+    if s.place < r.words.len() / 8 {
+        Ok(words::word_or_zero(r.words, s.place))
+    } else {
+        Err(Refusal::Malformed)
+    }
+}
+
 // Judges the node word at the next place, with a depth left.
 #[tactic(auto, unfolding(crate::specs::Judging::judge_of, predicate::specs::Checking::node_fault), using(words::specs::WordLaws::length_words, crate::specs::Judging::judged_number))]
 pub fn judge(r: &Request<'_>, depth: usize, s: Progress) -> Result<Node, Refusal>
     ensures { judged_of result ≡ judge_of r.now.schema.now r.now.pool.now (words_of r.now.words.now) depth s }
 {
-    if r.words.len() / 8 <= s.place {
-        return Err(Refusal::Malformed);
-    }
-    let w = words::word_or_zero(r.words, s.place);
+    let w = word_here(r, s)?;
     let n = predicate::node_at(r.pool, r.words, s.place);
     first_fault(formed(w), limited(depth, s, w), columned(r.schema, n))?;
     Ok(n)
@@ -170,13 +184,7 @@ fn suitable(pool: &[u8], pattern: bool, kind: u8, w: u64) -> bool
 }
 
 // The fault of a literal word for a column of a type, if it has one.
-fn literal_fault(
-    pool: &[u8],
-    pattern: bool,
-    kind: u8,
-    s: Progress,
-    w: u64,
-) -> Result<(), Refusal>
+fn literal_fault(pool: &[u8], pattern: bool, kind: u8, s: Progress, w: u64) -> Result<(), Refusal>
     ensures { fault_of result ≡ literal_fault pool.now pattern kind s w }
 {
     first_fault(
@@ -196,10 +204,7 @@ pub fn check_literal(
 ) -> Result<Progress, Refusal>
     ensures { outcome_of result ≡ check_literal r.now.schema.now r.now.pool.now (words_of r.now.words.now) pattern c s }
 {
-    if r.words.len() / 8 <= s.place {
-        return Err(Refusal::Malformed);
-    }
-    let w = words::word_or_zero(r.words, s.place);
+    let w = word_here(r, s)?;
     literal_fault(r.pool, pattern, predicate::type_in(r.schema, c), s, w)?;
     Ok(s.after_literal(w))
 }
@@ -245,11 +250,10 @@ pub fn check_predicate(r: &Request<'_>) -> Result<(), Refusal>
     ensures { fault_of result ≡ predicate_fault r.now.schema.now r.now.pool.now (words_of r.now.words.now) }
 {
     let t = check(r, limits::MAX_DEPTH, Progress::default())?;
-    if t.place == r.words.len() / 8 {
-        Ok(())
-    } else {
-        Err(Refusal::Malformed)
+    if t.place != r.words.len() / 8 {
+        return Err(Refusal::Malformed);
     }
+    Ok(())
 }
 
 // Whether every schema byte is a type.

@@ -3,7 +3,6 @@ use Rattle.std.specs.Prelude.{Bool, cond, ◌&&◌, List, ℕ, ◌%◌, length, 
 use Rattle.limits.specs.Limits.{max_list_limit, max_pool_bytes, table_room, table_pool_room, statistics_room, guarantees_room, bad_schema, bad_limit, no_room, malformed}
 use Rattle.words.specs.Word.{words_of}
 use Rattle.predicate.specs.Checking.{schema_fine, predicate_fault}
-
 -- the lengths of the four lent outputs
 pub use Rattle.predicate.specs.declared.Rooms.{Rooms}
 

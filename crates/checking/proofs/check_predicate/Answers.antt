@@ -11,8 +11,8 @@ returns-in_err-t c =
 
 pub returns-then-t-r : goal.returns-then-t-r
 returns-then-t-r c =
-    sym (fault_passed _ _ _ _ (sym (rw (start_is c.default.result c.default.ensures) at c.in_ok-t.ensures)) (c.if-t-r.true ∙ sym (length_words _)))
+    sym (fault_left _ _ _ _ (sym (rw (start_is c.default.result c.default.ensures) at c.in_ok-t.ensures)) (λ e. c.if-t-r.true (e ∙ length_words _)))
 
-pub returns-else-t-r : goal.returns-else-t-r
-returns-else-t-r c =
-    sym (fault_left _ _ _ _ (sym (rw (start_is c.default.result c.default.ensures) at c.in_ok-t.ensures)) (λ e. c.if-t-r.false (e ∙ length_words _)))
+pub returns : goal.returns
+returns c =
+    sym (fault_passed _ _ _ _ (sym (rw (start_is c.default.result c.default.ensures) at c.in_ok-t.ensures)) (c.if-t-r.false ∙ sym (length_words _)))
