@@ -1,6 +1,6 @@
 -- The word lists of a checked table, as the code walks them: place by place. Assumes nothing.
-use Rattle.std.specs.Prelude.{◌≡◌, refl, Bool, true, false, not, ◌&&◌, List, ◌∷◌, [], ℕ, zero, suc, ◌+◌, ◌-◌, ◌≤◌, ◌<◌, length, get_or, drop, eqb, ltb}
-use Rattle.std.proofs.Common.{◌∙◌, sym, ap, arith, add-one, drop_of_length-le, drop-cons}
+use Rattle.std.specs.Prelude.{◌≡◌, Bool, not, ◌&&◌, List, ◌∷◌, ℕ, zero, suc, ◌+◌, ◌-◌, length, get_or, drop, eqb, ltb}
+use Rattle.std.proofs.Common.{arith, add-one, drop_of_length-le, drop-cons}
 use Rattle.std.proofs.Math.Bool.{and_assoc}
 use Rattle.std.specs.List.{list_all, list_any, range_with_len}
 use Rattle.guarantees.specs.Guarantees.{zero_field, column_field}

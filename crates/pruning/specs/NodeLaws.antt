@@ -11,7 +11,6 @@ use Rattle.predicate.specs.Nodes.{or_equal}
 use Rattle.predicate.specs.Checking.{unused_zero}
 use Rattle.table.specs.Encoding.{kinds, kind_named, number_of_kind}
 use Rattle.table.specs.declared.Kind.{Kind}
-use Rattle.table.specs.declared.Kind.TheVariants as Kind
 use Rattle.pruning.specs.TableReading.{kind_of, operator_field, first_field, second_field, literal_first_field, zero_field, first_of, second_of, table_node_of, table_node_at}
 use Rattle.pruning.specs.TableChecking.{naming, table_shape_of, table_formed}
 use Rattle.pruning.specs.declared.TableNode.{TableNode}

@@ -155,7 +155,7 @@ fn formed_so(w: u64, s: TableShape) -> bool
         && (s.first || first_of(w) == 0)
         && (s.second || second_of(w) == 0)
         && (s.literal_first || literal_first_of(w) == 0)
-        && w % 549755813888 == 0
+        && words::field::<0, 39>(w) == 0
 }
 
 // A known kind and operator, every unnamed and unused field zero.
@@ -174,10 +174,8 @@ pub fn table_formed(w: u64) -> bool
 fn statistic_fine(schema: &[u8], w: u64) -> bool
     ensures { result ≡ statistic_fine schema.now w }
 {
-    let c = (w / 72057594037927936 % 256) as usize;
-    w % 18014398509481984 == 0
-        && c < schema.len()
-        && (w / 18014398509481984 % 4 < 3 || c == 0)
+    let c = words::field::<56, 8>(w) as usize;
+    words::field::<0, 54>(w) == 0 && c < schema.len() && (words::field::<54, 2>(w) < 3 || c == 0)
 }
 
 // Whether a word stands in a list, from a place on.
@@ -201,7 +199,7 @@ pub fn statistics_fine(schema: &[u8], list: &[u8]) -> bool
 fn guarantee_fine(schema: &[u8], w: u64) -> bool
     ensures { result ≡ guarantee_fine schema.now w }
 {
-    w % 549755813888 == 0 && (words::field::<56, 8>(w) as usize) < schema.len()
+    words::field::<0, 39>(w) == 0 && (words::field::<56, 8>(w) as usize) < schema.len()
 }
 
 // Every guarantee's word is fine.
