@@ -2,7 +2,7 @@
 use mathlib.Core.Path.{◌≡◌, refl, sym, ap, ◌∙◌}
 use mathlib.Core.List.{List, [], ◌∷◌, ◌++◌, append-nil}
 use mathlib.Core.Option.{Option, some, none}
-use Prim.Native.Nat.{ℕ, ◌+◌, ◌≤◌, ◌<◌}
+use Prim.Native.Nat.{ℕ, ◌+◌, ◌-◌, ◌≤◌, ◌<◌}
 use native.Mathlib.Omega.{arith}
 use lib.ListN.{length, take, length-append}
 use lib.Seq.{sets, sets-eq, length-take-le, take-take, take-append_seam}
@@ -10,8 +10,10 @@ use Rattle.words.specs.Stores.{written}
 use Rattle.text.specs.Utf8.{Utf8, encode, bytes_of, bytes_append, scalar_top}
 use Rattle.text.specs.Increment.{Raises, Raise, rise, rise_room, rise_front, rise_scalar, increment_rise}
 use Rattle.text.specs.Chars.{chars_of, bytes_chars, incremented}
-use Rattle.text.specs.Wrote.{Wrote}
+use Rattle.increment.proofs.Last.{last_bytes}
 use Rattle.std.specs.Prelude.{Some, None}
+use Rattle.std.proofs.lemmas.Grind.{common_steps}
+use borrow.Rule.Slice.PartMut.{put_mid}
 use Rattle.increment.specs.Outcome.{place_of, Outcome}
 
 -- what an answer of the search says of the parts
@@ -32,10 +34,12 @@ unplaced : (o : Option Raise) → None ≡ place_of o → o ≡ none
 unplaced none e = refl
 unplaced (some x) e = let z : ◌≡◌ {A = ℕ} 0 1 = cc in absurd (omega arith)
 
--- the bytes of characters and one more
-last_bytes : (k : List ℕ) (c : ℕ) → bytes_of (k ++ c ∷ []) ≡ bytes_of k ++ encode c
-unfolding bytes_of
-last_bytes k c = bytes_append k (c ∷ []) ∙ ap (λ l. bytes_of k ++ l) (append-nil (encode c))
+-- what a part of a buffer is set to by copying a slice over it
+pub put_is : (l ys : List ℕ) (at n : ℕ) → n ≡ at + length ys → n ≤ length l → put_mid at (n - at) l ys ≡ sets l at ys
+put_is l ys at n e h =
+    let k : n - at ≡ length ys = omega arith in
+    let d : at + length ys ≤ length l = omega arith in
+    rw (k, sets-eq ys l at d) (grind (arith, common_steps))
 
 -- the first len bytes of old are the characters cs, of which x is what the search finds
 module _ (f : ℕ → Option ℕ) (rs : Raises f) (old : List ℕ) (len : ℕ) (room : len < length old) (cs : List ℕ) (b : bytes_of cs ≡ take len old)
@@ -78,10 +82,10 @@ module _ (f : ℕ → Option ℕ) (rs : Raises f) (old : List ℕ) (len at d : �
           let b = (bytes_chars (take len old) u).1 in
           rw (g, h) (space f rs old len room (chars_of (take len old)) b x is, top f rs old len room (chars_of (take len old)) b x is)
 
-  -- and once it is, the front is the increment
-  pub raised_bytes : (new : List ℕ) (n : ℕ) → Wrote (encode d) at old new n → Outcome (incremented f (take len old)) old new (Some n)
+  -- and once its bytes bs are, the front is the increment
+  pub raised_bytes : (bs new : List ℕ) (n : ℕ) → bs ≡ encode d → n ≡ at + length bs → new ≡ sets old at bs → Outcome (incremented f (take len old)) old new (Some n)
   unfolding incremented
-  raised_bytes new n w = let p = placed _ at d e in go p.x p.is p.place p.top
+  raised_bytes bs new n y end out = let p = placed _ at d e in go p.x p.is p.place p.top
     where
       go : (x : Raise) → rise f (chars_of (take len old)) ≡ some x → at ≡ length (bytes_of x.kept) → d ≡ x.top
           → Outcome (incremented f (take len old)) old new (Some n)
@@ -89,8 +93,8 @@ module _ (f : ℕ → Option ℕ) (rs : Raises f) (old : List ℕ) (len at d : �
           let b = (bytes_chars (take len old) u).1 in
           rw (increment_rise f (chars_of (take len old)), is)
           (record {
-            end = ap Some (w.end ∙ rw (g, h, length_whole f rs old len room (chars_of (take len old)) b x is));
-            out = w.out ∙ rw (g, h) (whole f rs old len room (chars_of (take len old)) b x is);
+            end = ap Some (end ∙ rw (y, g, h, length_whole f rs old len room (chars_of (take len old)) b x is));
+            out = out ∙ rw (y, g, h) (whole f rs old len room (chars_of (take len old)) b x is);
           })
 
 -- the search found none: nothing is changed

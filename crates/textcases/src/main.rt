@@ -6,18 +6,13 @@ ghost use Rattle.text.specs.Utf8.{Utf8};
 
 use std::io;
 
-// A byte as a number.
-fn wide(x: u8) -> u64 {
-    x as u64
-}
-
 // Prints bytes in hex, and a dash for none.
 fn show(rt: &impl Print, s: &[u8]) -> io::Result<()> {
-    if s.len() == 0 {
+    if s.is_empty() {
         print!(rt; "-")?;
     }
-    for i in 0..s.len() {
-        print!(rt; "{:02x}", wide(s[i]))?;
+    for b in s {
+        print!(rt; "{:02x}", b)?;
     }
     Ok(())
 }
@@ -43,9 +38,9 @@ fn show_upper(rt: &impl Print, pattern: &[u8]) -> io::Result<()>
     requires { (length pattern.now < 64) × Utf8 pattern.now }
 {
     let mut out = [0u8; 64];
-    let r = increment::upper_bound(pattern, &mut out);
+    let end = increment::upper_bound(pattern, &mut out);
     print!(rt; " upper ")?;
-    match r {
+    match end {
         Some(n) => show(rt, &out[..n]),
         None => print!(rt; "unhandled"),
     }

@@ -1,28 +1,29 @@
--- The whole is raised as the characters before end are. Assumes nothing.
-use borrow.Author.Rules.{rules}
-use mathlib.Core.Path.{sym, ◌∙◌}
+-- The text is raised as what is left of it is. Assumes nothing.
+use Rattle.std.proofs.Common.{rules, arith, sym, ◌∙◌, ◌≡◌, length}
+use Rattle.std.specs.Char.{IsScalar}
+use Rattle.std.specs.Str.Iter.{char_indices_rest}
+use Rattle.std.specs.Iterator.Adapters.{rev_source}
 use Rattle.text.specs.Upper.{rule}
-use Rattle.increment.proofs.Last.{from_end, found, onward, finished}
+use Rattle.increment.proofs.Last.{before, found, onward, finished}
 use Rattle.increment.proofs.find_rise.Goals as goal
 
-pub loop-end-init : goal.loop-end-init
-loop-end-init c =
-    (search rules, from_end rule c.args.s.now c.requires)
+pub returns-in-Some-next_char : goal.returns-in-Some-next_char
+returns-in-Some-next_char c =
+    let l = c.loop-at in
+    let s = c.in-Some.ensures.steps in
+    let k : IsScalar c.in-Some.c = search rules in
+    let e : c.in-Some.at ≡ length (char_indices_rest (rev_source c.next.new.self)) = omega (arith, s.1.1, l.invariant.0) in
+    rw e (found _ _ _ l.invariant.1 k s.1.0 rule c.args.s.now l.invariant.2 _ (sym c.in-Some-next_char.is ∙ c.next_char.ensures))
 
-pub returns-in-Some : goal.returns-in-Some
-returns-in-Some c =
-    let l = c.loop-end in
-    found rule c.args.s.now l.end c.last_start-at.result c.decode-c.result c.loop-end-test.true l.invariant.0 c.last_start-at.ensures.0 c.decode-c.ensures.0
-    l.invariant.1 _ (sym c.next_char-n.ensures ∙ c.in-Some.is)
-
-pub loop-end-preserved : goal.loop-end-preserved
-loop-end-preserved c =
-    let l = c.loop-end in (
-      search rules,
-      onward rule c.args.s.now l.end c.last_start-at.result c.decode-c.result c.loop-end-test.true l.invariant.0 c.last_start-at.ensures.0 c.decode-c.ensures.0
-          l.invariant.1 (sym c.next_char-n.ensures ∙ c.in-None.is),
+pub loop-at-preserved : goal.loop-at-preserved
+loop-at-preserved c =
+    let l = c.loop-at in
+    let s = c.in-Some.ensures.steps in
+    let k : IsScalar c.in-Some.c = search rules in (
+      s.0 ∙ l.invariant.0,
+      before _ _ _ l.invariant.1 k s.1.0,
+      onward _ _ _ l.invariant.1 k s.1.0 rule c.args.s.now l.invariant.2 (sym c.in_default.is ∙ c.next_char.ensures),
     )
 
 pub returns : goal.returns
-returns c =
-    finished rule c.args.s.now c.loop-end.end c.loop-end-test.false c.loop-end.invariant.1
+returns c = finished rule c.args.s.now _ c.loop-at.invariant.2 c.in-None.ensures.steps.1.0

@@ -3,7 +3,7 @@ use Rattle.std.proofs.Common.{arith}
 use Rattle.text.specs.Upper.{prefix_length}
 use Rattle.textcases.proofs.show_upper.Goals as goal
 
-pub upper_bound-r-requires : goal.upper_bound-r-requires
-upper_bound-r-requires g c =
+pub upper_bound-end-requires : goal.upper_bound-end-requires
+upper_bound-end-requires g c =
     let h = prefix_length c.args.pattern.now in
     (c.requires.1, omega arith)
