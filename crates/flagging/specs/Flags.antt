@@ -94,3 +94,11 @@ module _ (list pool table guars cells grid answers : List ℕ) where
       let l = length_flags 0 n in
       let y : n ≡ 0 + length (flags_for 0 n) = omega arith in
       rw (add-one, flags_snoc 0 n, x, e) (sets_then old 0 n (flags_for 0 n) (flag_for n ∷ []) y)
+
+-- ---- rows, container by container
+
+pub next_row : (i n w m : ℕ) → i < n → n * w ≤ m → i * w + w ≤ m
+next_row i n w m h k =
+    let p : suc i * w ≤ n * w = mul-le-mul_right w h in
+    let e : suc i * w ≡ i * w + w = suc-mul i w in
+    omega arith
