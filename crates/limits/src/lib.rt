@@ -41,10 +41,10 @@ pub const STATISTICS_ROOM: usize = 1544;
 
 pub const GUARANTEES_ROOM: usize = 1024;
 
-// Why a call is refused.
+// Why a call is refused, by number.
 #[derive(Clone, Copy, Debug, PartialEq, Eq)]
 pub enum Refusal {
-    BadSchema,
+    BadSchema = 1,
     BadLimit,
     NoRoom,
     Malformed,
@@ -56,22 +56,10 @@ pub enum Refusal {
     BadAnswers,
 }
 
-// Its number.
 impl From<Refusal> for u8 {
     ghost from_gives = { λ r n. n ≡ number_of r };
 
     fn from(r: Refusal) -> u8 {
-        match r {
-            Refusal::BadSchema => 1,
-            Refusal::BadLimit => 2,
-            Refusal::NoRoom => 3,
-            Refusal::Malformed => 4,
-            Refusal::OverLimit => 5,
-            Refusal::Misfit => 6,
-            Refusal::BadContainers => 7,
-            Refusal::BadTable => 8,
-            Refusal::BadGrid => 9,
-            Refusal::BadAnswers => 10,
-        }
+        r as u8
     }
 }

@@ -31,6 +31,7 @@ impl Literal {
 }
 
 // The integer that 64 bits stand for in two's complement.
+#[tactic(auto, using(crate::proofs::Laws::signed_is))]
 pub fn of_word(w: u64) -> i64
     ensures { result ≡ signed w }
 {
@@ -45,6 +46,7 @@ pub fn to_word(x: i64) -> u64
 }
 
 // Minus an integer, -2^63 caught first.
+#[tactic(auto, using(crate::proofs::Laws::minus_least, crate::proofs::Laws::minus_other))]
 pub fn negate(x: i64) -> Option<i64>
     ensures { result ≡ negated x }
 {
@@ -55,6 +57,7 @@ pub fn negate(x: i64) -> Option<i64>
 }
 
 // How two integers compare.
+#[tactic(auto, unfolding(crate::specs::Signed::int_order))]
 pub fn compare_ints(a: i64, b: i64) -> Ordering
     ensures { result ≡ int_order a b }
 {
@@ -119,6 +122,7 @@ pub fn suits(pool: &[u8], kind: u8, w: u64) -> bool
 }
 
 // The literal of a word, a total reading: a byte past the pool's end counts as 0.
+#[tactic(auto, using(crate::specs::LiteralLaws::literal_null_lem, crate::specs::LiteralLaws::literal_int, crate::specs::LiteralLaws::literal_text, crate::specs::LiteralLaws::literal_truth))]
 pub fn literal_of(pool: &[u8], w: u64) -> Literal
     ensures { result ≡ literal_of pool.now w }
 {
@@ -139,7 +143,7 @@ fn pack(kind: u8, len: usize, offset: usize) -> u64
     requires { (kind < 4) × (len < 2 ^ 14) × (offset < 2 ^ 24) }
     ensures { result ≡ packed literal_layout (kind ∷ len ∷ 0 ∷ offset ∷ []) }
 {
-    u64::from(kind) * 4611686018427387904 + (len as u64) * 281474976710656 + (offset as u64)
+    (u64::from(kind) << 62) + ((len as u64) << 48) + offset as u64
 }
 
 // The word of a literal whose bytes stand at an offset.

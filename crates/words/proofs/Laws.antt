@@ -1,5 +1,5 @@
 -- What a copy into a slice stores, bytes read as a word, and the library's order of byte strings. Assumes nothing.
-use Rattle.std.proofs.Common.{◌≡◌, refl, sym, ◌∙◌, ap, List, [], ◌∷◌, ◌++◌, drop, w64, ℕ, ◌+◌, ◌≤◌, ◌<◌, Bool, true, false, length, arith, append_assoc, ltb, ltb-true, ltb-false, nat_cmp, Less, Equal, Greater}
+use Rattle.std.proofs.Common.{◌≡◌, refl, sym, ◌∙◌, ap, List, [], ◌∷◌, ◌++◌, drop, w64, ℕ, ◌+◌, ◌≤◌, ◌<◌, Bool, true, false, length, take, ◌-◌, take_all, length-drop, add-zero, arith, append_assoc, ltb, ltb-true, ltb-false, nat_cmp, Less, Equal, Greater}
 use Rattle.std.proofs.Math.Seq.{paste}
 use Rattle.std.proofs.lemmas.List.Edits.{sets, sets-eq, paste_all}
 use Rattle.std.specs.Cmp.{nat_cmp_is}
@@ -7,6 +7,7 @@ use Rattle.std.specs.Cmp.Lexicographic.{slice_cmp}
 use Rattle.std.specs.Int.{from_be_bytes}
 use Rattle.std.proofs.Math.ListN.{get_or-eq_default}
 use Rattle.words.specs.Word.{word_at}
+use Rattle.words.specs.WordLaws.{word_drop}
 use Rattle.words.specs.Bytes.{below, byte_order, below_first, order_below, order_above, order_self}
 
 -- a copy of vs to place i of l stores them there, one after the other
@@ -39,6 +40,10 @@ pub word_past : (s : List ℕ) (at : ℕ) → length s ≤ at → word_at s at �
 unfolding word_at
 word_past s at h =
     rw (get_or-eq_default s 0 {n = at} h, get_or-eq_default s 0 {n = at + 1} (omega arith), get_or-eq_default s 0 {n = at + 2} (omega arith), get_or-eq_default s 0 {n = at + 3} (omega arith), get_or-eq_default s 0 {n = at + 4} (omega arith), get_or-eq_default s 0 {n = at + 5} (omega arith), get_or-eq_default s 0 {n = at + 6} (omega arith), get_or-eq_default s 0 {n = at + 7} (omega arith))
+
+-- what is left from at on begins with the word at at
+pub rest_word : (s : List ℕ) (at : ℕ) → word_at (take (length s - at) (drop at s)) 0 ≡ word_at s at
+rest_word s at = rw (take_all (length s - at) (drop at s) (omega (arith, length-drop at s)), word_drop, add-zero)
 
 -- the library's order of byte strings
 pub slice_order : (a b : List ℕ) → slice_cmp nat_cmp a b ≡ byte_order a b

@@ -39,6 +39,7 @@ pub fn field<const SHIFT: u32, const BITS: u32>(w: u64) -> u64
 }
 
 // The word whose bytes begin at index at.
+#[tactic(auto, unfolding(crate::specs::Word::word_at))]
 pub fn word_at(s: &[u8], at: usize) -> u64
     requires { at + 8 ≤ length s.now }
     ensures { result ≡ word_at s.now at }
@@ -56,6 +57,7 @@ pub fn word_at(s: &[u8], at: usize) -> u64
 }
 
 // The word of fewer than eight bytes, the missing ones 0.
+#[tactic(auto, using(crate::proofs::Laws::filled_word))]
 fn cut_word(s: &[u8]) -> u64
     requires { length s.now < 8 }
     ensures { result ≡ word_at s.now 0 }
@@ -66,6 +68,7 @@ fn cut_word(s: &[u8]) -> u64
 }
 
 // The word whose bytes begin at index at, wherever that is; a byte past the end counts as 0.
+#[tactic(auto, using(crate::proofs::Laws::word_past, crate::proofs::Laws::rest_word))]
 pub fn padded_word(s: &[u8], at: usize) -> u64
     ensures { result ≡ word_at s.now at }
 {
@@ -80,6 +83,7 @@ pub fn padded_word(s: &[u8], at: usize) -> u64
 }
 
 // Word i of a list of words, and 0 past its end.
+#[tactic(auto, using(crate::specs::WordLaws::words_at, crate::specs::WordLaws::words_past))]
 pub fn word_or_zero(s: &[u8], i: usize) -> u64
     ensures { result ≡ get_or (words_of s.now) i 0 }
 {
@@ -139,6 +143,7 @@ pub fn operand_bytes<'a>(literals: &'a [u8], cells: &'a [u8], o: Operand) -> &'a
 }
 
 // How two byte strings compare: the first difference decides, and a front is below what continues it.
+#[tactic(auto, using(crate::proofs::Laws::slice_order))]
 pub fn compare_bytes(a: &[u8], b: &[u8]) -> Ordering
     ensures { result ≡ byte_order a.now b.now }
 {
