@@ -8,7 +8,7 @@ use Rattle.std.specs.Str.{IsUtf8}
 use lib.Seq.{take-append_seam}
 use Rattle.std.proofs.lemmas.Str.{IsUtf8-take, IsUtf8-encode, IsCharBoundary-at_seam}
 use Rattle.std.proofs.Math.Utf8.{scalar_cases}
-use Rattle.text.specs.Utf8.{Scalar, Text, Utf8, encode, bytes_of, bytes_append}
+use Rattle.text.specs.Utf8.{Scalar, Text, encode, bytes_of, bytes_append}
 use Rattle.text.specs.Increment.{rise, rise_here, rise_back}
 use Rattle.text.specs.Chars.{chars_of, chars_from, bytes_chars, chars_bytes}
 use Rattle.text.proofs.Std.{encode_is, from_std}

@@ -1,5 +1,5 @@
 -- The prefix, then its increment where a wildcard is left. Assumes nothing.
-use Rattle.std.proofs.Common.{◌≡◌, ◌≢◌, length, rules, arith, sym, ◌∙◌, ap}
+use Rattle.std.proofs.Common.{◌≡◌, ◌≢◌, length, rules, sym, ◌∙◌, ap}
 use Rattle.increment.proofs.Bound.{ready, whole, risen}
 use Rattle.increment.proofs.upper_bound.Goals as goal
 

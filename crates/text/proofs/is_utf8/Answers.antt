@@ -1,5 +1,5 @@
 -- std's UTF-8 is ours. Assumes nothing.
-use Rattle.std.proofs.Common.{sym, ◌∙◌}
+use Rattle.std.proofs.Common.{◌∙◌}
 use Rattle.text.proofs.Std.{valid_is}
 use Rattle.text.proofs.is_utf8.Goals as goal
 

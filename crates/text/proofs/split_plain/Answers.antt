@@ -1,5 +1,5 @@
 -- The first byte picks the case. Assumes nothing.
-use Rattle.std.proofs.Common.{arith, ◌≡◌, ◌≢◌, ◌⊎◌, sym, ◌∙◌}
+use Rattle.std.proofs.Common.{arith, ◌≡◌, ◌⊎◌}
 use Rattle.text.proofs.Laws.{split_end, split_wildcard, split_byte, split_backslash}
 use Rattle.text.proofs.split_plain.Goals as goal
 

@@ -1,5 +1,5 @@
 -- What is still to be stored, from n on, is the prefix of what is left of the pattern. Assumes nothing.
-use Rattle.std.proofs.Common.{◌≡◌, ◌≤◌, ◌+◌, false, length}
+use Rattle.std.proofs.Common.{◌≡◌, ◌+◌, false, length}
 use Rattle.std.proofs.lemmas.List.Edits.{sets}
 use Rattle.text.specs.Pattern.{prefix_of}
 use Rattle.text.proofs.write_prefix.Given as goal
