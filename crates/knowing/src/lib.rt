@@ -102,6 +102,7 @@ pub fn clipped(pool: &[u8], r: Range) -> &[u8]
 }
 
 // What LIKE comes to with a pattern that is a text: open where it has an upper bound.
+#[tactic(auto, using(text::specs::Upper::prefix_length))]
 fn known_pattern(pattern: &[u8]) -> Known
     requires { Utf8 pattern.now × (length pattern.now ≤ max_literal_bytes) }
     ensures { result ≡ known_bounded (upper_of pattern.now) }

@@ -17,6 +17,7 @@ use predicate::Column;
 use writing::Writer;
 
 // Writes the form of LIKE with a pattern whose upper bound is known.
+#[tactic(auto, using(text::specs::Upper::prefix_length))]
 fn write_between(w: &mut Writer<'_>, c: Column, pattern: &[u8], upper: &[u8])
     requires { Few w.old.list.now × (length pattern.now ≤ max_literal_bytes) × (length upper.now < 2 ^ 14) × RoomFor (wrapped c (like_form c (prefix_of false pattern.now) upper.now)) w.old }
     ensures { WroteBy (wrapped c (like_form c (prefix_of false pattern.now) upper.now)) w.old w.new }
@@ -28,6 +29,7 @@ fn write_between(w: &mut Writer<'_>, c: Column, pattern: &[u8], upper: &[u8])
 }
 
 // Writes the form of LIKE with a pattern that is a text, and true where it has no upper bound.
+#[tactic(auto, using(text::specs::Upper::prefix_length))]
 fn write_pattern(w: &mut Writer<'_>, c: Column, pattern: &[u8])
     requires { Few w.old.list.now × Utf8 pattern.now × (length pattern.now ≤ max_literal_bytes) × RoomFor (bounded_form c (prefix_of false pattern.now) (upper_of pattern.now)) w.old }
     ensures { WroteBy (bounded_form c (prefix_of false pattern.now) (upper_of pattern.now)) w.old w.new }
