@@ -1,9 +1,9 @@
 // Words of 64 bits in byte slices, ranges of a pool, and the order of byte strings.
 #![tactic(auto)]
 
-ghost use Rattle.std.specs.Prelude.{◌≡◌, ◌+◌, ◌*◌, ◌/◌, ◌%◌, ◌^◌, ◌≤◌, ◌<◌, length, get_or, take, drop};
+ghost use Rattle.std.specs.Prelude.{◌≡◌, ◌+◌, ◌/◌, ◌%◌, ◌^◌, ◌≤◌, ◌<◌, length, get_or, take, drop};
 ghost use Rattle.std.proofs.lemmas.List.Edits.{sets};
-ghost use Rattle.words.specs.Word.{of_bytes, word_at, word_bytes, words_of, range_of};
+ghost use Rattle.words.specs.Word.{word_at, word_bytes, words_of, range_of};
 ghost use Rattle.words.specs.Pools.{Cut, Inside, operand_of, OperandInside};
 ghost use Rattle.words.specs.Bytes.{byte_order};
 
