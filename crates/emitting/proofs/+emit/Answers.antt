@@ -1,75 +1,104 @@
--- The way of the node says what is written: a leaf, a constant, one side, or a join's word and both sides. Assumes nothing.
+-- Where the node was read, the predicate is the node's; then each arm. A join is what its sides fold to. Assumes nothing.
 use borrow.Author.Rules.{rules}
-use Rattle.predicate.specs.Predicates.{read_zero}
-use Rattle.listing.specs.Listing.{list_of}
+use Rattle.predicate.specs.Predicates.{read_zero, read_node}
+use Rattle.walking.specs.Places.{near_first, near_second}
 use Rattle.table.specs.Rewriting.{rewritten}
-use Rattle.writing.specs.WritingLaws.{room_word, room_left, room_right, wrote_both}
-use Rattle.emitting.proofs.Laws.{deep, leads}
+use Rattle.writing.specs.WriterLaws.{few_kept, both_by, room_word_by, room_left_by, room_right_by}
+use Rattle.emitting.proofs.Laws.{read_fits, join_is}
 use Rattle.emitting.proofs.+emit.Goals as goal
 
-pub write_always-requires : goal.write_always-requires
+pub emit-write_always-requires : goal.emit-write_always-requires
 unfolding rewritten
-write_always-requires t c =
-    (rw (read_zero _ _ _ _ c.if-depth-eq0.true) at c.requires.3).words
+emit-write_always-requires t c = (rw (read_zero _ _ _ _ c.if-depth-eq0.true) at c.requires.3).words
 
-pub returns-then-depth-eq0 : goal.returns-then-depth-eq0
+pub emit-returns-then-depth-eq0 : goal.emit-returns-then-depth-eq0
 unfolding rewritten
-returns-then-depth-eq0 t c =
-    rw (read_zero _ _ _ _ c.if-depth-eq0.true) (c.write_always.ensures (list_of c.args.list.now) c.args.pool.now)
+emit-returns-then-depth-eq0 t c = rw (read_zero _ _ _ _ c.if-depth-eq0.true) c.write_always.ensures
 
-pub way_at-requires : goal.way_at-requires
-way_at-requires t c =
-    (deep _ c.if-depth-eq0.false, c.requires.0, c.requires.1)
+pub emit-write_always-requires-in-Constant : goal.emit-write_always-requires-in-Constant
+unfolding rewritten
+emit-write_always-requires-in-Constant t c = ?
 
-pub write_leaf-requires : goal.write_leaf-requires
-write_leaf-requires t c =
-    let a = c.args in
-    (deep _ c.if-depth-eq0.false, c.requires.0, c.requires.1, leads a.limit a.schema.now a.input.now a.words.now a.depth a.at c.if-depth-eq0.false _ c.in-Leaf.ensures c.requires.1, c.requires.2, c.requires.3)
+pub emit-returns-after-matches : goal.emit-returns-after-matches
+unfolding rewritten
+emit-returns-after-matches t c = ?
 
-pub write_always-requires-in-Fixed : goal.write_always-requires-in-Fixed
-write_always-requires-in-Fixed t c =
-    let a = c.args in
-    (rw (leads a.limit a.schema.now a.input.now a.words.now a.depth a.at c.if-depth-eq0.false _ c.in-Fixed.ensures c.requires.1) at c.requires.3).words
+pub emit-emit_join-requires : goal.emit-emit_join-requires
+unfolding rewritten
+emit-emit_join-requires t c =
+    let p = c.args.r.now.pool.now in
+    let e = read_node _ _ _ _ c.if-depth-eq0.false _ c.in-Join.ensures in
+    let fine = rw e at c.requires.1 in
+    (search rules, (near_first p _ _ _ tt c.in-Join.ensures, near_second p _ _ _ tt c.in-Join.ensures _, fine.0, fine.1, c.requires.2, rw e at c.requires.3))
 
-pub emit-requires : goal.emit-requires
-emit-requires t c =
-    let a = c.args in
-    let l = leads a.limit a.schema.now a.input.now a.words.now a.depth a.at c.if-depth-eq0.false _ c.in-Side.ensures c.requires.1 in
-    (search rules, (l.1.0, l.1.1, c.requires.2, rw l.0 at c.requires.3))
+pub emit-returns-in-Join : goal.emit-returns-in-Join
+unfolding rewritten
+emit-returns-in-Join t c = rw (read_node _ _ _ _ c.if-depth-eq0.false _ c.in-Join.ensures) c.emit_join.ensures
 
-pub put_join-a-requires : goal.put_join-a-requires
-put_join-a-requires t c =
-    let a = c.args in
-    let l = leads a.limit a.schema.now a.input.now a.words.now a.depth a.at c.if-depth-eq0.false _ c.in-Both.ensures c.requires.1 in
-    room_word c.in-Both.j _ _ _ _ _ (rw l.0 at c.requires.3)
+pub emit-write_not-requires : goal.emit-write_not-requires
+unfolding rewritten
+emit-write_not-requires t c = (c.requires.2, (rw (read_node _ _ _ _ c.if-depth-eq0.false _ c.in-Not.ensures) at c.requires.3).words)
 
-pub emit-b-requires : goal.emit-b-requires
-emit-b-requires t c =
-    let a = c.args in
-    let l = leads a.limit a.schema.now a.input.now a.words.now a.depth a.at c.if-depth-eq0.false _ c.in-Both.ensures c.requires.1 in
-    (search rules, (l.1.0, l.1.1, c.requires.2, room_left c.in-Both.j _ _ _ _ _ _ _ (rw l.0 at c.requires.3) c.put_join-a.ensures))
+pub emit-returns-in-Not : goal.emit-returns-in-Not
+unfolding rewritten
+emit-returns-in-Not t c = rw (read_node _ _ _ _ c.if-depth-eq0.false _ c.in-Not.ensures) c.write_not.ensures
 
-pub emit-requires-in-Both : goal.emit-requires-in-Both
-emit-requires-in-Both t c =
-    let a = c.args in
-    let l = leads a.limit a.schema.now a.input.now a.words.now a.depth a.at c.if-depth-eq0.false _ c.in-Both.ensures c.requires.1 in
-    (search rules, (l.2.0, l.2.1, c.requires.2, room_right c.in-Both.j _ _ _ _ _ _ _ (rw l.0 at c.requires.3) c.put_join-a.ensures (list_of c.args.list.now) _ _ _ c.emit-b.ensures))
+pub emit-write_column-requires : goal.emit-write_column-requires
+unfolding rewritten
+emit-write_column-requires t c = (c.requires.2, (rw (read_node _ _ _ _ c.if-depth-eq0.false _ c.in-TruthColumn.ensures) at c.requires.3).words)
 
-pub returns-in-Leaf : goal.returns-in-Leaf
-returns-in-Leaf t c =
-    c.write_leaf.ensures
+pub emit-returns-in-TruthColumn : goal.emit-returns-in-TruthColumn
+unfolding rewritten
+emit-returns-in-TruthColumn t c = rw (read_node _ _ _ _ c.if-depth-eq0.false _ c.in-TruthColumn.ensures) c.write_column.ensures
 
-pub returns-in-Fixed : goal.returns-in-Fixed
-returns-in-Fixed t c =
-    let a = c.args in
-    rw (leads a.limit a.schema.now a.input.now a.words.now a.depth a.at c.if-depth-eq0.false _ c.in-Fixed.ensures c.requires.1) (c.write_always-in-Fixed.ensures (list_of c.args.list.now) c.args.pool.now)
+pub emit-column_has_nulls_expr-requires : goal.emit-column_has_nulls_expr-requires
+unfolding rewritten
+emit-column_has_nulls_expr-requires t c = (c.requires.2, (rw (read_node _ _ _ _ c.if-depth-eq0.false _ c.in-IsNull.ensures) at c.requires.3).words)
 
-pub returns-in-Side : goal.returns-in-Side
-returns-in-Side t c =
-    let a = c.args in
-    rw (leads a.limit a.schema.now a.input.now a.words.now a.depth a.at c.if-depth-eq0.false _ c.in-Side.ensures c.requires.1).0 c.emit.ensures
+pub emit-returns-in-IsNull : goal.emit-returns-in-IsNull
+unfolding rewritten
+emit-returns-in-IsNull t c = rw (read_node _ _ _ _ c.if-depth-eq0.false _ c.in-IsNull.ensures) c.column_has_nulls_expr.ensures
 
-pub returns-in-Both : goal.returns-in-Both
-returns-in-Both t c =
-    let a = c.args in
-    rw (leads a.limit a.schema.now a.input.now a.words.now a.depth a.at c.if-depth-eq0.false _ c.in-Both.ensures c.requires.1).0 (wrote_both (list_of c.args.list.now) c.in-Both.j _ _ _ _ _ _ _ _ _ _ _ _ _ c.put_join-a.ensures c.emit-b.ensures c.emit-in-Both.ensures)
+pub emit-column_has_non_nulls_expr-requires : goal.emit-column_has_non_nulls_expr-requires
+unfolding rewritten
+emit-column_has_non_nulls_expr-requires t c = (c.requires.2, (rw (read_node _ _ _ _ c.if-depth-eq0.false _ c.in-IsNotNull.ensures) at c.requires.3).words)
+
+pub emit-returns-in-IsNotNull : goal.emit-returns-in-IsNotNull
+unfolding rewritten
+emit-returns-in-IsNotNull t c = rw (read_node _ _ _ _ c.if-depth-eq0.false _ c.in-IsNotNull.ensures) c.column_has_non_nulls_expr.ensures
+
+pub emit-write_compared-requires : goal.emit-write_compared-requires
+unfolding rewritten
+emit-write_compared-requires t c =
+    (c.requires.2, read_fits _ _ _ _ c.in-Comparison.ensures, rw (read_node _ _ _ _ c.if-depth-eq0.false _ c.in-Comparison.ensures) at c.requires.3)
+
+pub emit-returns-in-Comparison : goal.emit-returns-in-Comparison
+unfolding rewritten
+emit-returns-in-Comparison t c = rw (read_node _ _ _ _ c.if-depth-eq0.false _ c.in-Comparison.ensures) c.write_compared.ensures
+
+pub emit-write_list-requires : goal.emit-write_list-requires
+unfolding rewritten
+emit-write_list-requires t c = (c.requires.2, c.requires.0, rw (read_node _ _ _ _ c.if-depth-eq0.false _ c.in-List.ensures) at c.requires.3)
+
+pub emit-returns-in-List : goal.emit-returns-in-List
+unfolding rewritten
+emit-returns-in-List t c = rw (read_node _ _ _ _ c.if-depth-eq0.false _ c.in-List.ensures) c.write_list.ensures
+
+pub emit-write_matching-requires : goal.emit-write_matching-requires
+unfolding rewritten
+emit-write_matching-requires t c =
+    let e = read_node _ _ _ _ c.if-depth-eq0.false _ c.in-Like.ensures in
+    (c.requires.2, (rw e at c.requires.1).1, rw e at c.requires.3)
+
+pub emit-returns-in-Like : goal.emit-returns-in-Like
+unfolding rewritten
+emit-returns-in-Like t c = rw (read_node _ _ _ _ c.if-depth-eq0.false _ c.in-Like.ensures) c.write_matching.ensures
+
+pub emit_join-emit-requires-in-Both : goal.emit_join-emit-requires-in-Both
+emit_join-emit-requires-in-Both t c = ?
+
+pub emit_join-emit-requires-in-Both-2 : goal.emit_join-emit-requires-in-Both-2
+emit_join-emit-requires-in-Both-2 t c = ?
+
+pub emit_join-returns-in-Both : goal.emit_join-returns-in-Both
+emit_join-returns-in-Both t c = ?
