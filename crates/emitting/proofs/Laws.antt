@@ -1,9 +1,12 @@
--- A node's literal fits a word, and what a join's sides come to says how it folds. Assumes nothing.
-use mathlib.Core.Path.{◌≡◌, sym, subst}
+-- Constants, a literal that fits a word, and what a join's sides come to says how it folds. Assumes nothing.
+use mathlib.Core.Path.{◌≡◌, refl, sym, subst}
+use mathlib.Core.Bool.{true}
 use mathlib.Core.List.{List}
 use Prim.Native.Nat.{ℕ, ◌+◌}
 use lib.ListN.{get_or}
 use Rattle.words.specs.declared.Walked.{Walked}
+use Rattle.kleene.specs.declared.Truth.{Truth}
+use Rattle.kleene.specs.declared.Truth.TheVariants.{False, Unknown, True}
 use Rattle.kleene.specs.declared.Joining.{Joining}
 use Rattle.literals.specs.Literals.{LiteralFits}
 use Rattle.predicate.specs.Nodes.{node_of}
@@ -13,11 +16,16 @@ use Rattle.predicate.specs.declared.Node.TheVariants.{Constant, Join, Not, Truth
 use Rattle.walking.specs.Places.{node_each}
 use Rattle.table.specs.declared.Folded.{Folded}
 use Rattle.table.specs.declared.Known.{Known}
-use Rattle.table.specs.Tables.{folds, folded}
-use Rattle.table.specs.Rewriting.{rewritten}
+use Rattle.table.specs.Tables.{always, folds, folded}
+use Rattle.table.specs.Rewriting.{constant_table, rewritten}
 use Rattle.folding.specs.Folds.{part_of}
 use Rattle.writing.specs.WritingLaws.{literal_fits}
 use Rattle.emitting.specs.Joins.{join_table}
+
+pub constant_other : (t : Truth) → (t ≡ False → ⊥) → constant_table t ≡ always true
+constant_other False h = absurd (h refl)
+constant_other Unknown h = refl
+constant_other True h = refl
 
 -- ---- a comparison's literal fits a word
 
