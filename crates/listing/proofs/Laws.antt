@@ -1,5 +1,5 @@
 -- A turn of the search, and of a list's growth. Assumes nothing.
-use Rattle.std.proofs.Common.{◌≡◌, sym, ◌∙◌, List, [], ◌∷◌, ◌++◌, ℕ, ◌+◌, ◌*◌, ◌/◌, ◌^◌, ◌≤◌, ◌<◌, arith, length, get_or, take, drop, drop_of_length-le, drop-cons, add-one, add-zero, eq-eqb, zero-add, take_all}
+use Rattle.std.proofs.Common.{◌≡◌, sym, ◌∙◌, List, [], ◌∷◌, ◌++◌, ℕ, ◌+◌, ◌*◌, ◌/◌, ◌^◌, ◌≤◌, ◌<◌, arith, length, get_or, take, drop, drop_of_length-le, drop-cons, add-one, add-zero, eq-eqb, take_all}
 use Rattle.std.proofs.Math.Seq.{take-suc}
 use borrow.Author.Tests.{ne_eqb}
 use Rattle.words.specs.Word.{words_of}
@@ -37,9 +37,6 @@ module _ (s : Statistic) (bs : List ℕ) (i : ℕ) (left : Left s i bs) where
 -- a word of 64 bits has a column of eight
 pub word_column : (s : Statistic) → statistic_word s < 2 ^ 64 → column_in s < 256
 word_column s h = omega arith
-
-pub left_all : (s : Statistic) (bs : List ℕ) → Left s 0 bs
-left_all s bs = record { place = rw zero-add }
 
 -- the first i of ss were added to the first n, and there is room for the others
 pub record Added (ss : List Statistic) (i n : ℕ) (old now : List ℕ) (m : ℕ) : Type 0 where

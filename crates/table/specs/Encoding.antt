@@ -1,7 +1,6 @@
 -- A table as words and a literal pool: statistics by their places in a list, literals in table order, each with its own bytes.
 -- Assumes nothing.
-use Rattle.std.specs.Prelude.{◌≡◌, refl, List, [], ◌∷◌, ◌++◌, ℕ, ◌+◌, ◌<◌, length, get_or, Option, Some, None}
-use Rattle.std.proofs.Common.{lit<}
+use Rattle.std.specs.Prelude.{◌≡◌, refl, List, [], ◌∷◌, ◌++◌, ℕ, ◌+◌, length, get_or, Option, Some, None}
 use Rattle.words.specs.Layout.{packed}
 use Rattle.operators.specs.Operators.{code_of}
 use Rattle.kleene.specs.declared.Joining.{Joining}
@@ -67,16 +66,6 @@ kind_number Positive = refl
 kind_number Differ = refl
 kind_number Holds = refl
 kind_number Negation = refl
-
-pub kind_below : (k : Kind) → number_of_kind k < 8
-kind_below Always = lit< tt
-kind_below AndKind = lit< tt
-kind_below OrKind = lit< tt
-kind_below Against = lit< tt
-kind_below Positive = lit< tt
-kind_below Differ = lit< tt
-kind_below Holds = lit< tt
-kind_below Negation = lit< tt
 
 abbrev pub table_word : ℕ → ℕ → ℕ → ℕ → ℕ → ℕ
 table_word kind operator first second literal_first = packed table_layout (kind ∷ operator ∷ first ∷ second ∷ literal_first ∷ 0 ∷ [])

@@ -1,10 +1,7 @@
 -- A word with the key, another, and none left. Assumes nothing.
 use Rattle.std.proofs.Common.{arith, sym, ◌∙◌}
-use Rattle.listing.proofs.Laws.{left_all, place_here, place_on, place_end}
+use Rattle.listing.proofs.Laws.{place_here, place_on, place_end}
 use Rattle.listing.proofs.find.Goals as goal
-
-pub loop-i-init : goal.loop-i-init
-loop-i-init c = left_all c.args.s c.args.list.now
 
 pub returns-then-word_key-key : goal.returns-then-word_key-key
 returns-then-word_key-key c =
