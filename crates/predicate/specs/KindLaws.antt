@@ -1,6 +1,7 @@
--- Nodes and shapes by the kinds of their words. Assumes nothing.
-use Rattle.std.specs.Prelude.{◌≡◌, true, false, List, ℕ, eqb, Option, Some, None}
-use Rattle.std.proofs.Math.ListN.{get_or-map}
+-- Nodes and shapes by the kinds of their words; past the known kinds and constants. Assumes nothing.
+use Rattle.std.specs.Prelude.{◌≡◌, refl, true, false, List, [], ◌∷◌, ℕ, zero, suc, ◌≤◌, get_or, eqb, Option, Some, None}
+use Rattle.std.proofs.Common.{arith}
+use Rattle.std.proofs.Math.ListN.{get_or-map, get_or-eq_default}
 use Rattle.operators.specs.Operators.{operator_of}
 use Rattle.kleene.specs.declared.Truth.TheVariants.{Unknown}
 use Rattle.kleene.specs.declared.Joining.TheVariants.{And, Or}
@@ -48,3 +49,22 @@ shape_by None = bare 0
 
 pub shape_kinds : (k : ℕ) → shape_of k ≡ shape_by (kind_named k)
 shape_kinds k = get_or-map shape_by kinds k None
+
+-- ---- past the known ones
+
+past_ten : {A : Type 0} (a b c d e f g h i j z : A) (k : ℕ) → 10 ≤ k → get_or (a ∷ b ∷ c ∷ d ∷ e ∷ f ∷ g ∷ h ∷ i ∷ j ∷ []) k z ≡ z
+past_ten a b c d e f g h i j z k p = get_or-eq_default (a ∷ b ∷ c ∷ d ∷ e ∷ f ∷ g ∷ h ∷ i ∷ j ∷ []) z p
+
+pub node_unknown : (pool : List ℕ) (w l : ℕ) → 10 ≤ kind_of w → node_of pool w l ≡ Constant Unknown
+unfolding node_of
+node_unknown pool w l h = past_ten _ _ _ _ _ _ _ _ _ _ (Constant Unknown) (kind_of w) h
+
+pub shape_unknown : (k : ℕ) → 10 ≤ k → shape_of k ≡ bare 0
+shape_unknown k h = past_ten _ _ _ _ _ _ _ _ _ _ (bare 0) k h
+
+-- null, and the codes past it
+pub constant_null : (n : ℕ) → 2 ≤ n → constant_of n ≡ Unknown
+constant_null zero h = absurd (omega arith)
+constant_null (suc zero) h = absurd (omega arith)
+constant_null (suc (suc zero)) h = refl
+constant_null (suc (suc (suc n))) h = refl

@@ -108,7 +108,7 @@ impl Progress {
             place: self.place + 1,
             nodes: self.nodes + 1,
             listed: self.listed + usize::from(count_of(w)),
-            bytes: self.bytes,
+            ..self
         }
     }
 
@@ -119,9 +119,8 @@ impl Progress {
     {
         Progress {
             place: self.place + 1,
-            nodes: self.nodes,
-            listed: self.listed,
             bytes: self.bytes + literals::length_of(w),
+            ..self
         }
     }
 }
