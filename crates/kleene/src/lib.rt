@@ -1,4 +1,4 @@
-// Three-valued logic by constant tables.
+// Three-valued logic by constant tables, a form that document 01 names.
 #![tactic(auto)]
 
 ghost use Rattle.std.specs.Prelude.{◌≡◌};

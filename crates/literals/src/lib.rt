@@ -17,6 +17,7 @@ pub enum Literal {
     Truth(bool),
 }
 
+// Types stay numbers: a schema may hold any byte.
 impl Literal {
     pub const NULL: u8 = 0;
 
@@ -45,7 +46,7 @@ pub fn to_word(x: i64) -> u64
     x.cast_unsigned()
 }
 
-// Minus an integer, -2^63 caught first.
+// Minus an integer, -2^63 caught first: document 01 names this test, so it is no checked_neg.
 #[tactic(auto, using(crate::proofs::Laws::minus_least, crate::proofs::Laws::minus_other))]
 pub fn negate(x: i64) -> Option<i64>
     ensures { result ≡ negated x }

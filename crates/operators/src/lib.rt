@@ -18,6 +18,7 @@ pub enum Operator {
     NotDistinct,
 }
 
+// A constant for each code and functions from code and back: document 01 names this form.
 impl Operator {
     pub const EQUAL: u8 = 0;
 
