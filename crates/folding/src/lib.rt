@@ -20,10 +20,12 @@ use words::Walked;
 fn known_not(r: &Request<'_>, depth: usize, at: usize) -> Known
     ensures { result ≡ known (not_table (predicate_at r.now.pool.now (words_of r.now.words.now) depth at).predicate) }
 {
-    if depth > 0 && matches!(predicate::node_at(r.pool, r.words, at), Node::TruthColumn(_)) {
-        Known::Open
-    } else {
-        Known::True
+    if depth == 0 {
+        return Known::True;
+    }
+    match predicate::node_at(r.pool, r.words, at) {
+        Node::TruthColumn(_) => Known::Open,
+        _ => Known::True,
     }
 }
 
@@ -41,12 +43,10 @@ pub fn fold(r: &Request<'_>, depth: usize, at: usize) -> Walked<Known>
     let value = match predicate::node_at(r.pool, r.words, at) {
         Node::Constant(t) => knowing::known_constant(t),
         Node::Join(j) => {
-            let left = fold(r, depth - 1, at + 1);
-            let right = fold(r, depth - 1, left.next);
-            return Walked {
-                value: knowing::join_known(j, left.value, right.value),
-                next: right.next,
-            };
+            let Walked { value: left, next } = fold(r, depth - 1, at + 1);
+            let Walked { value: right, next } = fold(r, depth - 1, next);
+            let value = knowing::join_known(j, left, right);
+            return Walked { value, next };
         }
         Node::Not => known_not(r, depth - 1, at + 1),
         Node::TruthColumn(_) | Node::IsNull(_) | Node::IsNotNull(_) => Known::Open,

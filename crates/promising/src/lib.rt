@@ -45,8 +45,10 @@ fn any_value(words: &[u8], at: usize, count: u16) -> bool
     requires { Near words.now at }
     ensures { result ≡ any_value (words_of words.now) count (at + 1) }
 {
-    (0..usize::from(count))
-        .any(|i| literals::type_of(words::word_or_zero(words, at + 1 + i)) != Literal::NULL)
+    (0..usize::from(count)).any(|i| {
+        let w = words::word_or_zero(words, at + 1 + i);
+        literals::type_of(w) != Literal::NULL
+    })
 }
 
 // What a set gives: one guarantee, if the column is not flipped and the set is not empty.

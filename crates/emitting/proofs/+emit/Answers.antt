@@ -24,14 +24,14 @@ pub emit-write_always-requires-in-Constant : goal.emit-write_always-requires-in-
 unfolding rewritten
 emit-write_always-requires-in-Constant t c =
     let e : constant_table c.in-Constant.t ≡ always (not c.match-matches.matches) =
-        elim c.match-matches.branch [ emit-in-False w ↦ rw (w.matches-is, w.in-False.is) | emit-in_default w ↦ rw w.matches-is (constant_other _ w.in_default.not-False) ] in
+    elim c.match-matches.branch [ emit-in-False w ↦ rw (w.matches-is, w.in-False.is) | emit-in_default w ↦ rw w.matches-is (constant_other _ w.in_default.not-False) ] in
     (rw (read_node _ _ _ _ c.if-depth-eq0.false _ c.in-Constant.ensures, e) at c.requires.3).words
 
 pub emit-returns-after-matches : goal.emit-returns-after-matches
 unfolding rewritten
 emit-returns-after-matches t c =
     let e : constant_table c.in-Constant.t ≡ always (not c.match-matches.matches) =
-        elim c.match-matches.branch [ emit-in-False w ↦ rw (w.matches-is, w.in-False.is) | emit-in_default w ↦ rw w.matches-is (constant_other _ w.in_default.not-False) ] in
+    elim c.match-matches.branch [ emit-in-False w ↦ rw (w.matches-is, w.in-False.is) | emit-in_default w ↦ rw w.matches-is (constant_other _ w.in_default.not-False) ] in
     rw (read_node _ _ _ _ c.if-depth-eq0.false _ c.in-Constant.ensures, e) c.write_always-in-Constant.ensures
 
 pub emit-emit_join-requires : goal.emit-emit_join-requires

@@ -13,10 +13,10 @@ write_always-requires c =
     let r = c.args.r.now in
     let m = c.args.m in
     let out : (m.count ≡ 0) ⊎ (r.limit < m.count) =
-        elim c.then-n-eq0.branch [
-          then-n-eq0-via-then-n-eq0 w ↦ inl (rw c.from-n.ensures at w.if-n-eq0.true)
-        | then-n-eq0-via-else-n-eq0+then-r-n w ↦ inr (rw c.from-n.ensures at w.if-r-n.true)
-        ] in
+    elim c.then-n-eq0.branch [
+      | then-n-eq0-via-then-n-eq0 w ↦ inl (rw c.from-n.ensures at w.if-n-eq0.true)
+      | then-n-eq0-via-else-n-eq0+then-r-n w ↦ inr (rw c.from-n.ensures at w.if-r-n.true)
+    ] in
     (rw (list_outside r.limit r.schema.now r.pool.now (words_of r.words.now) m.negated m.column m.flips m.count (m.at + 1) out) at c.requires.2).words
 
 pub returns-then-n-eq0 : goal.returns-then-n-eq0
@@ -24,10 +24,10 @@ returns-then-n-eq0 c =
     let r = c.args.r.now in
     let m = c.args.m in
     let out : (m.count ≡ 0) ⊎ (r.limit < m.count) =
-        elim c.then-n-eq0.branch [
-          then-n-eq0-via-then-n-eq0 w ↦ inl (rw c.from-n.ensures at w.if-n-eq0.true)
-        | then-n-eq0-via-else-n-eq0+then-r-n w ↦ inr (rw c.from-n.ensures at w.if-r-n.true)
-        ] in
+    elim c.then-n-eq0.branch [
+      | then-n-eq0-via-then-n-eq0 w ↦ inl (rw c.from-n.ensures at w.if-n-eq0.true)
+      | then-n-eq0-via-else-n-eq0+then-r-n w ↦ inr (rw c.from-n.ensures at w.if-r-n.true)
+    ] in
     rw (list_outside r.limit r.schema.now r.pool.now (words_of r.words.now) m.negated m.column m.flips m.count (m.at + 1) out) c.write_always.ensures
 
 pub write_nest-requires : goal.write_nest-requires
