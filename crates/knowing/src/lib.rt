@@ -107,8 +107,8 @@ fn known_pattern(pattern: &[u8]) -> Known
     requires { Utf8 pattern.now × (length pattern.now ≤ max_literal_bytes) }
     ensures { result ≡ known_bounded (upper_of pattern.now) }
 {
-    // No heap: room for the longest upper bound, one byte more than a pattern.
-    let mut upper = [0; 1025];
+    // No heap: room for the longest upper bound, of which only its being there counts.
+    let mut upper = [0; limits::MAX_TABLE_TEXT_BYTES];
     match increment::upper_bound(pattern, &mut upper) {
         Some(_) => Known::Open,
         None => Known::True,

@@ -22,8 +22,8 @@ fn write_between(w: &mut Writer<'_>, c: Column, pattern: &[u8], upper: &[u8])
     requires { Few w.old.list.now × (length pattern.now ≤ max_literal_bytes) × (length upper.now < 2 ^ 14) × RoomFor (wrapped c (like_form c (prefix_of false pattern.now) upper.now)) w.old }
     ensures { WroteBy (wrapped c (like_form c (prefix_of false pattern.now) upper.now)) w.old w.new }
 {
-    // No heap: room for the longest prefix.
-    let mut prefix = [0; 1024];
+    // No heap: room for the longest prefix, with how many bytes of it are in use.
+    let mut prefix = [0; limits::MAX_LITERAL_BYTES];
     let n = text::write_prefix(pattern, &mut prefix, 0);
     likes::write_like(w, c, &prefix[..n], upper);
 }
@@ -34,8 +34,8 @@ fn write_pattern(w: &mut Writer<'_>, c: Column, pattern: &[u8])
     requires { Few w.old.list.now × Utf8 pattern.now × (length pattern.now ≤ max_literal_bytes) × RoomFor (bounded_form c (prefix_of false pattern.now) (upper_of pattern.now)) w.old }
     ensures { WroteBy (bounded_form c (prefix_of false pattern.now) (upper_of pattern.now)) w.old w.new }
 {
-    // No heap: room for the longest upper bound, one byte more than a pattern.
-    let mut upper = [0; 1025];
+    // No heap: room for the longest upper bound, with how many bytes of it are in use.
+    let mut upper = [0; limits::MAX_TABLE_TEXT_BYTES];
     match increment::upper_bound(pattern, &mut upper) {
         Some(n) => write_between(w, c, pattern, &upper[..n]),
         None => w.write_always(true),
