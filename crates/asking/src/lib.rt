@@ -12,78 +12,62 @@ ghost use Rattle.statistics.specs.Statistics.{statistic_words};
 ghost use Rattle.table.specs.Rewriting.{lists, statistics};
 ghost use Rattle.listing.specs.Listing.{Room, Grown};
 
+use knowing::Members;
 use predicate::Node;
+use walking::Request;
+use words::Walked;
 
-// The place behind a predicate, and how many statistics are listed by then.
-#[derive(Clone, Copy)]
-pub struct Asked {
-    pub next: usize,
-    pub n: usize,
-}
-
-// Where listing stands.
-fn reached(next: usize, n: usize) -> Asked
-    ensures { result ≡ record { next = next; n = n } }
-{
-    Asked { next: next, n: n }
-}
-
-// Lists what the predicate at a place asks for, both sides of AND and OR always: build_predicate_expression.
-pub fn list_at(
-    schema: &[u8],
-    pool: &[u8],
-    words: &[u8],
-    limit: usize,
-    depth: usize,
-    at: usize,
-    list: &mut [u8],
-    n: usize,
-) -> Asked
-    requires { Near words.now at × Fine schema.now (predicate_at pool.now (words_of words.now) depth at).predicate × Room (lists limit schema.now (predicate_at pool.now (words_of words.now) depth at).predicate) n list.old }
-    ensures next { result.next ≡ (predicate_at pool.now (words_of words.now) depth at).next }
-    ensures list { Grown (lists limit schema.now (predicate_at pool.now (words_of words.now) depth at).predicate) n list.old list.new result.n }
+// Lists what the predicate at a place asks for, both sides of AND and OR always: build_predicate_expression. It answers how many
+// statistics are listed by then, and the place behind the predicate.
+#[tactic(auto, unfolding(table::specs::Rewriting::lists), using(predicate::specs::Predicates::read_zero, predicate::specs::Predicates::read_node, walking::specs::Places::near_first, walking::specs::Places::near_second, listing::specs::ListingLaws::grown_none, listing::specs::ListingLaws::room_first, listing::specs::ListingLaws::room_next, listing::specs::ListingLaws::grown_then))]
+pub fn list_at(r: &Request<'_>, depth: usize, at: usize, list: &mut [u8], n: usize) -> Walked<usize>
+    requires { Near r.now.words.now at × Fine r.now.schema.now (predicate_at r.now.pool.now (words_of r.now.words.now) depth at).predicate × Room (lists r.now.limit r.now.schema.now (predicate_at r.now.pool.now (words_of r.now.words.now) depth at).predicate) n list.old }
+    ensures next { result.next ≡ (predicate_at r.now.pool.now (words_of r.now.words.now) depth at).next }
+    ensures list { Grown (lists r.now.limit r.now.schema.now (predicate_at r.now.pool.now (words_of r.now.words.now) depth at).predicate) n list.old list.new result.value }
 {
     if depth == 0 {
-        return reached(at, n);
+        return Walked { value: n, next: at };
     }
     let d = depth - 1;
-    match predicate::node_at(pool, words, at) {
-        Node::Constant(_) => reached(at + 1, n),
+    let (value, next) = match predicate::node_at(r.pool, r.words, at) {
+        Node::Constant(_) => (n, at + 1),
         Node::Join(_) => {
-            let l = list_at(schema, pool, words, limit, d, at + 1, list, n);
-            list_at(schema, pool, words, limit, d, l.next, list, l.n)
+            let first = list_at(r, d, at + 1, list, n);
+            return list_at(r, d, first.next, list, first.value);
         }
         Node::Not => {
-            let m = leaves::list_not(pool, words, d, at + 1, list, n);
-            reached(walking::skip(pool, words, d, at + 1), m)
+            let m = leaves::list_not(r, d, at + 1, list, n);
+            (m, walking::skip(r.pool, r.words, d, at + 1))
         }
-        Node::TruthColumn(c) => reached(at + 1, listing::list_column(list, n, c)),
-        Node::IsNull(c) => reached(at + 1, listing::list_blanks(list, n, c)),
-        Node::IsNotNull(c) => reached(at + 1, listing::list_blanks_rows(list, n, c)),
+        Node::TruthColumn(c) => (listing::list_column(list, n, c), at + 1),
+        Node::IsNull(c) => (listing::list_blanks(list, n, c), at + 1),
+        Node::IsNotNull(c) => (listing::list_blanks_rows(list, n, c), at + 1),
         Node::Comparison(o, c, flips, first, l) => {
-            let m = leaves::list_turned(schema, pool, o, c, flips, first, l, list, n);
-            reached(at + 2, m)
+            (
+                leaves::list_turned(r, o, c, flips, first, l, list, n),
+                at + 2,
+            )
         }
-        Node::List(neg, c, flips, k) => {
-            let m = leaves::list_in(schema, pool, words, limit, neg, c, flips, k, at, list, n);
-            reached(at + 1 + (k as usize), m)
+        Node::List(negated, column, flips, count) => {
+            let m = Members {
+                negated,
+                column,
+                flips,
+                at,
+                count,
+            };
+            (leaves::list_in(r, m, list, n), at + 1 + usize::from(count))
         }
-        Node::Like(neg, c, l) => reached(at + 2, leaves::list_like(pool, neg, c, l, list, n)),
-    }
+        Node::Like(negated, c, l) => { (leaves::list_like(r.pool, negated, c, l, list, n), at + 2) }
+    };
+    Walked { value, next }
 }
 
-// Lists all that a predicate asks for.
-pub fn list_statistics(
-    schema: &[u8],
-    pool: &[u8],
-    words: &[u8],
-    limit: usize,
-    list: &mut [u8],
-) -> usize
-    requires { (length schema.now ≤ max_columns) × Fine schema.now (predicate_at pool.now (words_of words.now) max_depth 0).predicate × (statistics_room ≤ length list.old) }
-    ensures count { result ≡ length (statistics limit schema.now (predicate_at pool.now (words_of words.now) max_depth 0).predicate) }
-    ensures list { list.new ≡ written (bytes_of (statistic_words (statistics limit schema.now (predicate_at pool.now (words_of words.now) max_depth 0).predicate))) list.old }
+// Lists all that a predicate asks for, and answers how many statistics that are.
+pub fn list_statistics(r: &Request<'_>, list: &mut [u8]) -> usize
+    requires { (length r.now.schema.now ≤ max_columns) × Fine r.now.schema.now (predicate_at r.now.pool.now (words_of r.now.words.now) max_depth 0).predicate × (statistics_room ≤ length list.old) }
+    ensures count { result ≡ length (statistics r.now.limit r.now.schema.now (predicate_at r.now.pool.now (words_of r.now.words.now) max_depth 0).predicate) }
+    ensures list { list.new ≡ written (bytes_of (statistic_words (statistics r.now.limit r.now.schema.now (predicate_at r.now.pool.now (words_of r.now.words.now) max_depth 0).predicate))) list.old }
 {
-    let r = list_at(schema, pool, words, limit, limits::MAX_DEPTH, 0, list, 0);
-    r.n
+    list_at(r, limits::MAX_DEPTH, 0, list, 0).value
 }

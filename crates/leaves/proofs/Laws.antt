@@ -1,7 +1,9 @@
 -- The members of a list one after the other, a turned comparison, and LIKE. Assumes nothing.
 use mathlib.Core.Path.{◌≡◌, refl}
 use mathlib.Core.Bool.{Bool, true, false}
-use mathlib.Core.Option.{Option, some, none}
+use Rattle.std.specs.Prelude.{Option, Some, None}
+use mathlib.Core.Option as MathOption
+use mathlib.Core.Option.{some, none}
 use mathlib.Core.List.{List, [], ◌++◌}
 use Prim.Native.Nat.{ℕ, suc, ◌+◌, ◌-◌, ◌≤◌, ◌<◌}
 use native.Mathlib.Omega.{arith}
@@ -15,15 +17,15 @@ use Rattle.predicate.specs.Checking.{type_in}
 use Rattle.predicate.specs.Predicates.{values_at, length_values}
 use Rattle.predicate.specs.declared.Column.{Column}
 use Rattle.statistics.specs.declared.Statistic.{Statistic}
+use Rattle.table.specs.declared.Known.{Known}
 use Rattle.table.specs.declared.Known.TheVariants.{False, True, Open}
-use Rattle.knowing.specs.Knowns.{known_bounded}
+use Rattle.knowing.specs.Knowns.{known_bounded, known_like}
 use Rattle.table.specs.Comparisons.{turned, comparison_lists, pattern_upper, like_lists}
 use Rattle.table.specs.Rewriting.{column_lists, list_operator, comparison_statistics, members_lists, list_lists}
 use Rattle.listing.specs.Listing.{Room, Grown, is_bounded}
 use Rattle.listing.specs.ListingLaws.{room_first, room_next, grown_then, grown_none, like_listed_lem}
 use Rattle.turning.specs.Turns.{Turns}
-use Rattle.turning.specs.declared.Turned.{Turned}
-use Rattle.turning.specs.declared.Turned.TheVariants.{Against, Unhandled}
+use Rattle.turning.specs.declared.Against.{Against}
 
 -- ---- the members of a list
 
@@ -86,32 +88,28 @@ going_end all n old rest m mid e h = h.ends mid m (rw e (grown_none m mid h.room
 
 -- ---- a turned comparison
 
-module _ (schema pool : List ℕ) (c : Column) (kind : ℕ) (o : Operator) (flips : ℕ) (first : Bool) (l : Literal) (r : Turned)
-    (e : kind ≡ type_in schema c.0) (t : Turns (turned kind o flips first) l r) where
-  pub against_lists : (p : Operator) (x : Literal) → r ≡ Against p x
-      → comparison_statistics schema o c flips first (value_of pool l) ≡ comparison_lists c p
-  against_lists p x q = let h = t.value pool in rw (← e, ← h, q)
+-- what turning answers, listed
+abbrev pub turned_lists_of : Column → Option Against → List Statistic
+turned_lists_of c None = []
+turned_lists_of c (Some a) = comparison_lists c a.operator
 
-  pub unhandled_lists : r ≡ Unhandled → comparison_statistics schema o c flips first (value_of pool l) ≡ []
-  unhandled_lists q = let h = t.value pool in rw (← e, ← h, q)
+pub turned_lists : (schema : List ℕ) (c : Column) (o : Operator) (flips : ℕ) (first : Bool) (l : Literal) (r : Option Against)
+    → Turns (turned (type_in schema c.0) o flips first) l r → (pool : List ℕ)
+    → comparison_statistics schema o c flips first (value_of pool l) ≡ turned_lists_of c r
+turned_lists schema c o flips first l None t pool = rw (← t.value pool)
+turned_lists schema c o flips first l (Some a) t pool = rw (← t.value pool)
 
 -- ---- LIKE
 
-pub open_bounded : (o : Option (List ℕ)) → Open ≡ known_bounded o → true ≡ is_bounded o
-open_bounded none e = let z : ◌≡◌ {A = ℕ} 0 1 = cc in absurd (omega arith)
-open_bounded (some u) e = refl
+-- an open LIKE has an upper bound, and no other
+abbrev pub is_open : Known → Bool
+is_open False = false
+is_open True = false
+is_open Open = true
 
-pub true_bounded : (o : Option (List ℕ)) → True ≡ known_bounded o → false ≡ is_bounded o
-true_bounded none e = refl
-true_bounded (some u) e = let z : ◌≡◌ {A = ℕ} 0 1 = cc in absurd (omega arith)
-
-pub false_bounded : (o : Option (List ℕ)) → False ≡ known_bounded o → false ≡ is_bounded o
-false_bounded none e = refl
-false_bounded (some u) e = let z : ◌≡◌ {A = ℕ} 0 1 = cc in absurd (omega arith)
-
-module _ (b : Bool) (c : Column) (v : Value) (e : b ≡ false) where
-  pub like_bounded : is_bounded (pattern_upper v) ≡ true → like_lists b c v ≡ comparison_lists c Equal
-  like_bounded h = rw (e, like_listed_lem c v, h)
-
-  pub like_unbounded : is_bounded (pattern_upper v) ≡ false → like_lists b c v ≡ column_lists c
-  like_unbounded h = rw (e, like_listed_lem c v, h)
+pub bounded_known : (v : Value) → is_bounded (pattern_upper v) ≡ is_open (known_like false v)
+bounded_known v = go (pattern_upper v)
+  where
+    go : (o : MathOption.Option (List ℕ)) → is_bounded o ≡ is_open (known_bounded o)
+    go none = refl
+    go (some u) = refl
