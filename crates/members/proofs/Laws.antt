@@ -120,27 +120,6 @@ ran_none w =
       keeps = record { table = refl; pool = refl; list = refl };
     }
 
-pub ran_one : (x : Table) (w v : Writer) → WroteBy x w v → RanBy (x ∷ []) w v
-ran_one x w v h =
-    let p = h.wrote in
-    record {
-      ran =
-          record {
-            answer = p.answer ∙ rw (append-nil (pool_of x)) (spots (omega arith) refl);
-            table = p.table ∙ rw (append-nil (table_words (list_of w.list.now) w.at.off x));
-            pool = p.pool ∙ rw (append-nil (pool_of x));
-          };
-      keeps = h.keeps;
-    }
-
-pub room_one : (x : Table) (w : Writer) → RoomsFor (x ∷ []) w → RoomFor x w
-room_one x w h =
-    let a = h.words in
-    let b = h.bytes in
-    let k = h.small in
-    let e : length (pool_of x ++ []) ≡ length (pool_of x) = ap length (append-nil (pool_of x)) in
-    record { words = omega arith; bytes = omega arith; small = omega arith }
-
 rooms_first : (xs ys : List Table) (s : Spot) (old pool : List ℕ) → Rooms (xs ++ ys) s old pool → Rooms xs s old pool
 rooms_first xs ys s old pool h =
     let w = h.words in
@@ -165,9 +144,6 @@ pub record Going (all : List Table) (w : Writer) (rest : List Table) (v : Writer
   pub room : RoomsFor rest v
   pub keeps : Keeps w v
   pub ends : (u : Writer) → RanBy rest v u → RanBy all w u
-
-pub going_start : (all rest : List Table) (w : Writer) → rest ≡ all → RoomsFor all w → Going all w rest w
-going_start all rest w e h = rw e (record { room = h; keeps = record { table = refl; pool = refl; list = refl }; ends = λ u g. g })
 
 module _ (all : List Table) (w : Writer) (rest xs ys : List Table) (v : Writer) (e : rest ≡ xs ++ ys) (h : Going all w rest v) where
   pub going_room : RoomsFor xs v
@@ -209,9 +185,6 @@ module _ (schema pool ws : List ℕ) (b : Bool) (c : Column) (flips k at : ℕ) 
   unfolding open_at values_at
   rest_none i h = let e : k - i ≡ 0 = omega arith in rw e
 
-  pub rest_all : rest_open 0 ≡ open_at schema pool ws b c flips k at
-  rest_all = let e : k - 0 ≡ k = omega arith in let f : at + 0 ≡ at = omega arith in rw (e, f)
-
 -- those that stay, counted by their places
 module _ (schema pool ws : List ℕ) (b : Bool) (c : Column) (flips at : ℕ) where
   abbrev pub stays_at : ℕ → Bool
@@ -234,12 +207,6 @@ module _ (schema pool ws : List ℕ) (b : Bool) (c : Column) (flips at : ℕ) wh
 
 module _ (schema pool : List ℕ) (b : Bool) (c : Column) (flips : ℕ) (l : Literal) (r : Option Against)
     (t : Turns (turned (type_in schema c.0) (list_operator b) flips false) l r) where
-  pub against_opens : (a : Against) → r ≡ Some a
-      → opens (member_table schema b c flips (value_of pool l) ∷ []) ≡ comparison_form c a.operator (value_of pool a.literal) ∷ []
-  against_opens a q =
-      let h = t.value pool in
-      rw (← h, q, solid_open (comparison_form c a.operator (value_of pool a.literal)) (form_solid c a.operator (value_of pool a.literal)))
-
   pub unhandled_opens : r ≡ None → opens (member_table schema b c flips (value_of pool l) ∷ []) ≡ []
   unhandled_opens q = let h = t.value pool in rw (← h, q)
 

@@ -3,9 +3,6 @@ use Rattle.predicate.specs.Predicates.{read_zero, read_node}
 use Rattle.folding.specs.Folds.{not_other}
 use Rattle.emitting.proofs.write_not.Goals as goal
 
-pub write_always-requires : goal.write_always-requires
-write_always-requires c = rw (read_zero _ _ _ _ c.if-depth-eq0.true) at c.requires.1
-
 pub returns-then-depth-eq0 : goal.returns-then-depth-eq0
 returns-then-depth-eq0 c = rw (read_zero _ _ _ _ c.if-depth-eq0.true) c.write_always.ensures
 
@@ -14,10 +11,6 @@ write_not_column-requires c = (c.requires.0, rw (read_node _ _ _ _ c.if-depth-eq
 
 pub returns-in-TruthColumn : goal.returns-in-TruthColumn
 returns-in-TruthColumn c = rw (read_node _ _ _ _ c.if-depth-eq0.false _ c.in-TruthColumn.ensures) c.write_not_column.ensures
-
-pub write_always-requires-in_default : goal.write_always-requires-in_default
-write_always-requires-in_default c =
-    rw (read_node _ _ _ _ c.if-depth-eq0.false _ c.node_at.ensures, not_other _ _ _ _ _ c.in_default.not-TruthColumn) at c.requires.1
 
 pub returns-in_default : goal.returns-in_default
 returns-in_default c =

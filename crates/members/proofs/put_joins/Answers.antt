@@ -1,5 +1,4 @@
 -- The words put so far, and one more. Assumes nothing.
-use native.Mathlib.Nat.{le_antisymm}
 use Rattle.table.specs.Nests.{join_word}
 use Rattle.members.proofs.Laws.{joins_none, joins_more, joins_room}
 use Rattle.members.proofs.put_joins.Goals as goal
@@ -12,6 +11,3 @@ put_join-requires c = joins_room _ _ (join_word c.args.j) _ _ c.loop-test.true c
 
 pub loop-preserved : goal.loop-preserved
 loop-preserved c = joins_more c.loop.counter c.args.j _ _ _ c.loop.invariant c.put_join.ensures
-
-pub returns : goal.returns
-returns c = rw (le_antisymm c.loop.auto.counter-end c.loop-test.false) at c.loop.invariant

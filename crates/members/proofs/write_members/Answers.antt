@@ -3,14 +3,8 @@ use Prim.Native.Nat.{◌+◌}
 use Rattle.words.specs.Word.{words_of}
 use Rattle.writing.specs.WritingLaws.{literal_fits}
 use Rattle.writing.specs.WriterLaws.{few_kept}
-use Rattle.members.proofs.Laws.{rest_next, rest_none, rest_all, going_start, going_room, going_next, going_end}
+use Rattle.members.proofs.Laws.{rest_next, rest_none, going_room, going_next, going_end}
 use Rattle.members.proofs.write_members.Goals as goal
-
-pub loop-i-init : goal.loop-i-init
-loop-i-init c =
-    let r = c.args.r.now in
-    let m = c.args.m in
-    going_start _ _ _ (rest_all r.schema.now r.pool.now (words_of r.words.now) m.negated m.column m.flips m.count (m.at + 1)) c.requires.2
 
 pub write_member-requires : goal.write_member-requires
 write_member-requires c =
