@@ -222,6 +222,17 @@ pub record Checked (table pool stats guars : List ℕ) : Type 0 where
 room_of : (bs : List ℕ) (room : ℕ) → words_within bs room ≡ true → length bs ≤ room
 room_of bs room e = leb-true (length bs) room (and_both (eqb (length bs % 8) 0) (leb (length bs) room) e).1
 
+-- its lists' rooms alone
+pub checked_rooms : (schema table pool stats guars : List ℕ) → checked_table schema table pool stats guars ≡ true
+    → (length stats ≤ statistics_room) × (length guars ≤ guarantees_room)
+unfolding checked_table
+checked_rooms schema table pool stats guars e =
+    let a = and_both (words_within table table_room) _ e in
+    let b = and_both (leb (length pool) table_pool_room) _ a.1 in
+    let c = and_both (words_within stats statistics_room) _ b.1 in
+    let d = and_both (words_within guars guarantees_room) _ c.1 in
+    (room_of stats statistics_room c.0, room_of guars guarantees_room d.0)
+
 pub checked_says : (schema table pool stats guars : List ℕ) → AllBelow 256 stats → checked_table schema table pool stats guars ≡ true
     → Checked table pool stats guars
 unfolding checked_table

@@ -1,7 +1,10 @@
 -- What an accepted rewriting call says and writes: every output within its limit, and read back as what was written. Assumes nothing.
-use Rattle.std.specs.Prelude.{◌≡◌, refl, Bool, true, false, cond, ◌&&◌, List, ℕ, ◌/◌, ◌%◌, ◌≤◌, length, eqb, leb}
+use Rattle.std.specs.Prelude.{◌≡◌, refl, Bool, true, false, cond, ◌&&◌, List, ℕ, ◌/◌, ◌%◌, ◌≤◌, ◌<◌, ◌^◌, length, eqb, leb}
 use Rattle.std.proofs.Common.{arith, leb-true, eqb-true}
 use Rattle.limits.specs.Limits.{max_columns, max_list_limit, max_pool_bytes, max_table_depth, table_room, table_pool_room, statistics_room, guarantees_room, max_containers, bad_schema, bad_limit, no_room, malformed, bad_containers, bad_table, bad_grid, bad_answers}
+use Rattle.limits.specs.Refusals.{number_of}
+use Rattle.limits.specs.declared.Refusal.{Refusal}
+use Rattle.limits.specs.declared.Refusal.TheVariants.{BadSchema, BadLimit, NoRoom, Malformed, OverLimit, Misfit, BadContainers, BadTable, BadGrid, BadAnswers}
 use Rattle.words.specs.Tests.{and_both}
 use Rattle.words.specs.Word.{words_of, bytes_of}
 use Rattle.words.specs.WordLaws.{length_bytes}
@@ -25,8 +28,35 @@ use Rattle.pruning.specs.Cells.{answers_fine}
 use Rattle.pruning.specs.Writes.{Bounded, statistics_back, read_back, written_checked}
 use Rattle.spill.specs.Prune.{Call, grid_fine, prune_fault}
 use Rattle.predicate.specs.Checking.{types_fine, schema_fine, predicate_fault}
-use Rattle.predicate.specs.Calls.{Rooms, roomy, rewrite_fault}
+use Rattle.predicate.specs.Calls.{roomy, rewrite_fault}
+use Rattle.predicate.specs.declared.Rooms.{Rooms}
 use Rattle.spill.specs.Rewrite.{predicate_of}
+
+-- ---- a refusal's number
+
+pub number_above : (r : Refusal) → number_of r ≡ 0 → ⊥
+number_above BadSchema e = omega arith
+number_above BadLimit e = omega arith
+number_above NoRoom e = omega arith
+number_above Malformed e = omega arith
+number_above OverLimit e = omega arith
+number_above Misfit e = omega arith
+number_above BadContainers e = omega arith
+number_above BadTable e = omega arith
+number_above BadGrid e = omega arith
+number_above BadAnswers e = omega arith
+
+pub number_below : (r : Refusal) → number_of r < 2 ^ 8
+number_below BadSchema = omega arith
+number_below BadLimit = omega arith
+number_below NoRoom = omega arith
+number_below Malformed = omega arith
+number_below OverLimit = omega arith
+number_below Misfit = omega arith
+number_below BadContainers = omega arith
+number_below BadTable = omega arith
+number_below BadGrid = omega arith
+number_below BadAnswers = omega arith
 
 -- ---- the call
 

@@ -10,6 +10,8 @@ use Rattle.std.proofs.Math.Seq.{get_or-take}
 use Rattle.std.proofs.Math.Dec.{ltb}
 use borrow.Author.Tests.{eqb-true, leb-true, ltb-true}
 use Rattle.limits.specs.Limits.{max_containers, bad_schema, bad_containers, bad_table, bad_grid}
+use Rattle.limits.specs.Refusals.{number_of}
+use Rattle.limits.specs.declared.Refusal.{Refusal}
 use Rattle.words.specs.Tests.{and_both}
 use Rattle.words.specs.Word.{word_at, words_of}
 use Rattle.words.specs.WordLaws.{AllBelow, length_words, words_at, word_drop}
@@ -28,6 +30,7 @@ use Rattle.evaluating.specs.Rows.{row_cells}
 use Rattle.evaluating.specs.FromChecks.{checked_says}
 use Rattle.flagging.specs.Flags.{width, Fits, flag_for, flags_for, length_flags, next_row}
 use Rattle.spill.specs.Prune.{Call, list_in, table_in, grid_fine, prune_fault, flag_in, flags_from, pruning}
+use Rattle.spill.specs.Bounds.{number_above}
 use Rattle.spill.specs.Done.{Flagged}
 
 -- ---- a container's row and its cells
@@ -170,19 +173,21 @@ fits c p k =
 
 -- ---- what the call returns and leaves
 
-pub flagged_refused : (c : Call) (n : ℕ) (old : List ℕ) → n ≡ prune_fault c → (n ≡ 0 → ⊥) → Flagged (pruning c) old old n
+pub flagged_refused : (c : Call) (r : Refusal) (old : List ℕ) → number_of r ≡ prune_fault c → Flagged (pruning c) old old (number_of r)
 unfolding pruning
-flagged_refused c zero old e h = absurd (h refl)
-flagged_refused c (suc n) old e h = rw (← e) (record { result = refl; flags = refl })
+flagged_refused c r old e = go (number_of r) (number_above r) e
+  where
+    go : (n : ℕ) → (n ≡ 0 → ⊥) → n ≡ prune_fault c → Flagged (pruning c) old old n
+    go zero h e = absurd (h refl)
+    go (suc n) h e = rw (← e) (record { result = refl; flags = refl })
 
-pub flagged_done : (c : Call) (n : ℕ) (old new : List ℕ) → n ≡ prune_fault c → n ≡ 0 → c.room ≡ length old
+pub flagged_done : (c : Call) (old new : List ℕ) → 0 ≡ prune_fault c → c.room ≡ length old
     → new ≡ sets old 0 (row_flags c 0 c.containers) → Flagged (pruning c) old new 0
 unfolding pruning
-flagged_done c n old new e z l s =
-    let q : prune_fault c ≡ 0 = sym e ∙ z in
-    let p = passed c q in
+flagged_done c old new e l s =
+    let p = passed c (sym e) in
     let f : flags_from c 0 c.containers ≡ row_flags c 0 c.containers = flags_from_lem c p.cells 0 c.containers (omega arith) in
     let k : length (row_flags c 0 c.containers) ≡ c.containers =
     length_flags c.statistics c.pool c.table c.guarantees c.cells c.grid c.answers 0 c.containers in
     let r = p.room in
-    rw (q, f) (record { result = refl; flags = s ∙ sets_front old (row_flags c 0 c.containers) (omega arith) })
+    rw (← e, f) (record { result = refl; flags = s ∙ sets_front old (row_flags c 0 c.containers) (omega arith) })

@@ -4,7 +4,8 @@ use Rattle.limits.specs.Limits.{max_depth}
 use Rattle.words.specs.Word.{words_of, bytes_of}
 use Rattle.words.specs.Layout.{packed}
 use Rattle.predicate.specs.Predicates.{Predicate, predicate_at}
-use Rattle.predicate.specs.Calls.{Rooms, rewrite_fault}
+use Rattle.predicate.specs.Calls.{rewrite_fault}
+use Rattle.predicate.specs.declared.Rooms.{Rooms}
 use Rattle.statistics.specs.Statistics.{statistic_words}
 use Rattle.table.specs.Rewriting.{rewritten, statistics}
 use Rattle.table.specs.Encoding.{table_words, pool_of}

@@ -3,12 +3,15 @@ use Rattle.std.specs.Prelude.{◌≡◌, refl, List, [], ◌∷◌, ℕ, zero, s
 use Rattle.std.proofs.Common.{sym, ap, ◌∙◌, zero-add, arith, length-take-le}
 use Rattle.std.proofs.lemmas.List.Edits.{sets}
 use Rattle.limits.specs.Limits.{max_depth}
+use Rattle.limits.specs.Refusals.{number_of}
+use Rattle.limits.specs.declared.Refusal.{Refusal}
 use Rattle.words.specs.Word.{words_of, bytes_of}
 use Rattle.words.specs.WordLaws.{length_bytes}
 use Rattle.words.specs.Layout.{packed}
 use Rattle.words.specs.Stores.{written, sets_front, take_written, length_written}
 use Rattle.predicate.specs.Predicates.{Predicate, predicate_at}
-use Rattle.predicate.specs.Calls.{Rooms, rewrite_fault}
+use Rattle.predicate.specs.Calls.{rewrite_fault}
+use Rattle.predicate.specs.declared.Rooms.{Rooms}
 use Rattle.statistics.specs.declared.Statistic.{Statistic}
 use Rattle.statistics.specs.Statistics.{statistic_words}
 use Rattle.statistics.specs.ListLaws.{length_statistics}
@@ -24,11 +27,11 @@ use Rattle.guarantees.specs.GuaranteeLaws.{length_guarantees}
 use Rattle.listing.specs.Listing.{list_of, Few}
 use Rattle.writing.specs.declared.Spot.{Spot}
 use Rattle.writing.specs.Writing.{Room, Wrote}
-use Rattle.promising.specs.declared.Written.{Written}
+use Rattle.words.specs.declared.Walked.{Walked}
 use Rattle.promising.specs.Wrote as Promised
 use Rattle.promising.specs.Wrote.{whole_room}
 use Rattle.spill.specs.Rewrite.{answer_layout, predicate_of, outputs, rewriting, answer_word}
-use Rattle.spill.specs.Bounds.{Taken, taken, call_list}
+use Rattle.spill.specs.Bounds.{Taken, taken, call_list, number_above}
 use Rattle.spill.specs.Done.{Buffers, Rewrote}
 
 -- the four outputs of a call
@@ -50,12 +53,14 @@ rooms_of b =
 refusal_word : (n : ℕ) → n * 2 ^ 56 ≡ packed answer_layout (n ∷ 0 ∷ 0 ∷ 0 ∷ 0 ∷ 0 ∷ [])
 refusal_word n = omega arith
 
-pub rewrote_refused : (schema predicate pool : List ℕ) (limit : ℕ) (b : Buffers) (n : ℕ) → n ≡ rewrite_fault schema predicate pool limit (rooms_of b)
-    → (n ≡ 0 → ⊥) → Rewrote (rewriting schema predicate pool limit (rooms_of b)) b b (n * 2 ^ 56)
+pub rewrote_refused : (schema predicate pool : List ℕ) (limit : ℕ) (b : Buffers) (r : Refusal) → number_of r ≡ rewrite_fault schema predicate pool limit (rooms_of b)
+    → Rewrote (rewriting schema predicate pool limit (rooms_of b)) b b (number_of r * 2 ^ 56)
 unfolding rewriting
-rewrote_refused schema predicate pool limit b zero e h = absurd (h refl)
-rewrote_refused schema predicate pool limit b (suc n) e h =
-    rw (← e) (record { answer = refusal_word (suc n); table = refl; pool = refl; statistics = refl; guarantees = refl })
+rewrote_refused schema predicate pool limit b r e = go (number_of r) (number_above r) e
+  where
+    go : (n : ℕ) → (n ≡ 0 → ⊥) → n ≡ rewrite_fault schema predicate pool limit (rooms_of b) → Rewrote (rewriting schema predicate pool limit (rooms_of b)) b b (n * 2 ^ 56)
+    go zero h e = absurd (h refl)
+    go (suc n) h e = rw (← e) (record { answer = refusal_word (suc n); table = refl; pool = refl; statistics = refl; guarantees = refl })
 
 -- ---- an accepted call
 
@@ -116,8 +121,8 @@ module _ (schema predicate pool : List ℕ) (limit : ℕ) (old : Buffers) (e : r
   promised = whole_room schema (words_of predicate) asked old.guarantees accepted.whole accepted.guarantees
 
   -- the counts fit the answer word
-  pub counts : (s : Spot) (g : Written) (n : ℕ) → s ≡ record { to = 0 + table_width table; off = 0 + length (pool_of table) } → n ≡ length list
-      → g.n ≡ 0 + length (guarantees 0 asked) → (s.to < 2 ^ 16) × (s.off < 2 ^ 16) × (n < 2 ^ 8) × (g.n < 2 ^ 8)
+  pub counts : (s : Spot) (g : Walked ℕ) (n : ℕ) → s ≡ record { to = 0 + table_width table; off = 0 + length (pool_of table) } → n ≡ length list
+      → g.value ≡ 0 + length (guarantees 0 asked) → (s.to < 2 ^ 16) × (s.off < 2 ^ 16) × (n < 2 ^ 8) × (g.value < 2 ^ 8)
   counts s g n a k c =
       let w = words_most limit schema (words_of predicate) asked accepted.whole in
       let b = pool_most limit schema (words_of predicate) asked accepted.whole in
@@ -144,16 +149,16 @@ module _ (schema predicate pool : List ℕ) (limit : ℕ) (old : Buffers) (e : r
   front_set : (l bs new : List ℕ) → length bs ≤ length l → new ≡ sets l 0 bs → new ≡ written bs l
   front_set l bs new h s = s ∙ sets_front l bs h
 
-  pub rewrote_outputs : (new : Buffers) (s : Spot) (g : Written) (n r : ℕ) → new.statistics ≡ written (bytes_of (statistic_words list)) old.statistics
+  pub rewrote_outputs : (new : Buffers) (s : Spot) (g : Walked ℕ) (n r : ℕ) → new.statistics ≡ written (bytes_of (statistic_words list)) old.statistics
       → n ≡ length list → Wrote table list (record { to = 0; off = 0 }) old.table new.table old.pool new.pool s
       → Promised.Wrote (predicate_at pool (words_of predicate) max_depth 0) 0 0 old.guarantees new.guarantees g
-      → r ≡ packed answer_layout (0 ∷ s.to ∷ s.off ∷ n ∷ g.n ∷ 0 ∷ []) → Rewrote (outputs limit schema asked) old new r
+      → r ≡ packed answer_layout (0 ∷ s.to ∷ s.off ∷ n ∷ g.value ∷ 0 ∷ []) → Rewrote (outputs limit schema asked) old new r
   rewrote_outputs new s g n r st k w p a =
       let m = roomy in
       let q = promised in
       let to : s.to ≡ table_width table = ap (λ (x : Spot). x.to) w.answer ∙ zero-add _ in
       let off : s.off ≡ length (pool_of table) = ap (λ (x : Spot). x.off) w.answer ∙ zero-add _ in
-      let gs : g.n ≡ length (guarantees 0 asked) = p.count ∙ zero-add _ in
+      let gs : g.value ≡ length (guarantees 0 asked) = p.count ∙ zero-add _ in
       let lt : length (bytes_of (table_words list 0 table)) ≤ length old.table = rw (length_bytes, width_is list 0 table) (omega (arith, m.words)) in
       let lg : length (bytes_of (guarantee_words (guarantees 0 asked))) ≤ length old.guarantees = rw (length_bytes, length_guarantees) (omega (arith, q.room)) in
       record {
@@ -164,8 +169,8 @@ module _ (schema predicate pool : List ℕ) (limit : ℕ) (old : Buffers) (e : r
         guarantees = front_set old.guarantees (bytes_of (guarantee_words (guarantees 0 asked))) new.guarantees lg p.bytes;
       }
 
-pub rewrote_done : (schema predicate pool : List ℕ) (limit : ℕ) (old new : Buffers) (n r : ℕ) → n ≡ rewrite_fault schema predicate pool limit (rooms_of old)
-    → n ≡ 0 → Rewrote (outputs limit schema (predicate_of predicate pool)) old new r
+pub rewrote_done : (schema predicate pool : List ℕ) (limit : ℕ) (old new : Buffers) (r : ℕ) → 0 ≡ rewrite_fault schema predicate pool limit (rooms_of old)
+    → Rewrote (outputs limit schema (predicate_of predicate pool)) old new r
     → Rewrote (rewriting schema predicate pool limit (rooms_of old)) old new r
 unfolding rewriting
-rewrote_done schema predicate pool limit old new n r e z w = let q : rewrite_fault schema predicate pool limit (rooms_of old) ≡ 0 = sym e ∙ z in rw q w
+rewrote_done schema predicate pool limit old new r e w = rw (← e) w

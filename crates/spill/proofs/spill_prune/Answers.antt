@@ -1,16 +1,16 @@
 -- A refusal writes nothing; else every container's flag is written. Assumes nothing.
-use mathlib.Core.Path.{refl, sym, ◌∙◌}
+use mathlib.Core.Path.{refl, sym}
 use Rattle.spill.specs.Pruning.{passed, fits, flagged_refused, flagged_done}
 use Rattle.spill.proofs.spill_prune.Goals as goal
 
-pub returns-then-fault-ne0 : goal.returns-then-fault-ne0
-returns-then-fault-ne0 c =
-    flagged_refused _ _ _ c.prune_fault-fault.ensures c.if-fault-ne0.true
-
 pub prune_flags-requires : goal.prune_flags-requires
 prune_flags-requires c =
-    fits _ (passed _ (sym c.prune_fault-fault.ensures ∙ c.if-fault-ne0.false)) (λ k. (c.type_inv.statistics k).fits)
+    fits _ (passed _ (sym c.in-Ok.ensures)) (λ k. (c.type_inv.statistics k).fits)
 
-pub returns : goal.returns
-returns c =
-    flagged_done _ _ _ _ c.prune_fault-fault.ensures c.if-fault-ne0.false refl c.prune_flags.ensures
+pub returns-in-Ok : goal.returns-in-Ok
+returns-in-Ok c =
+    flagged_done _ _ _ c.in-Ok.ensures refl c.prune_flags.ensures
+
+pub returns-in-Err : goal.returns-in-Err
+returns-in-Err c =
+    rw (c.from-in-Err.ensures, c.from.ensures) (flagged_refused _ c.in-Err.refusal _ c.in-Err.ensures)
