@@ -28,9 +28,7 @@ pub fn guarantee_word(c: Column, not_in: bool, place: usize) -> u64
     requires { place < 2 ^ 16 }
     ensures { result ≡ guarantee_word (bare c not_in place) }
 {
-    u64::from(c.0) * 72057594037927936
-        + u64::from(not_in) * 36028797018963968
-        + (place as u64) * 549755813888
+    (u64::from(c.0) << 56) + (u64::from(not_in) << 55) + ((place as u64) << 39)
 }
 
 // Whether a literal is not null.

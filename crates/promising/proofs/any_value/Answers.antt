@@ -1,5 +1,5 @@
 -- The closure tells a literal that is not null, and any_value is whether one of them is. Assumes nothing.
-use Rattle.std.proofs.Common.{◌≡◌, ℕ, ◌+◌, refl, ◌∙◌, rules, tests, arith, add-zero}
+use Rattle.std.proofs.Common.{◌+◌, refl, ◌∙◌, rules, tests, arith, add-zero}
 use Rattle.std.proofs.lemmas.Iterator.{YieldsList-from_range}
 use Rattle.std.proofs.lemmas.Iterator.Search.{any_from_yields_List}
 use Rattle.words.specs.Word.{words_of}
