@@ -226,7 +226,6 @@ pub fn node_of(pool: &[u8], w: u64, l: u64) -> Node
 }
 
 // The node whose word stands at a place; past the end the words are 0.
-#[tactic(auto, using(words::specs::WordLaws::words_past))]
 pub fn node_at(pool: &[u8], words: &[u8], at: usize) -> Node
     ensures { result ≡ node_at pool.now (words_of words.now) at }
 {

@@ -15,7 +15,7 @@ use Rattle.kleene.specs.declared.Joining.{Joining}
 use Rattle.kleene.specs.declared.Joining.TheVariants.{And, Or}
 use Rattle.literals.specs.Literals.{literal_of}
 use Rattle.predicate.specs.Nodes.{kind_of, operator_field, column_of, flips_of, first_field, count_of, constant_of, or_equal, negated_of, node_of}
-use Rattle.predicate.specs.Predicates.{Read, node_at, node_predicate, predicate_at, length_values, read_node}
+use Rattle.predicate.specs.Predicates.{Read, node_at, node_predicate, predicate_at, length_values}
 use Rattle.predicate.specs.Measures.{width, depth}
 use Rattle.predicate.specs.declared.Column.{Column}
 use Rattle.predicate.specs.declared.Node.{Node}
@@ -30,12 +30,6 @@ Near bs at = at ≤ length bs / 4 + 2 ^ 16
 pub node_past : (pool ws : List ℕ) (at : ℕ) → length ws ≤ at → node_at pool ws at ≡ Constant False
 unfolding node_of
 node_past pool ws at h = rw (get_or-eq_default ws 0 h)
-
--- ---- where the predicate of a node ends
-
-pub next_node : (pool ws : List ℕ) (d at : ℕ) → (d ≡ 0 → ⊥)
-    → (predicate_at pool ws d at).next ≡ (node_predicate (predicate_at pool ws (d - 1)) pool ws at (node_at pool ws at)).next
-next_node pool ws d at h = rw (read_node pool ws d at h (node_at pool ws at) refl)
 
 -- ---- what holds of every node that a word can stand for
 

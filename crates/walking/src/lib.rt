@@ -18,7 +18,7 @@ pub struct Request<'a> {
 }
 
 // The place behind the predicate at a place.
-#[tactic(auto, using(predicate::specs::Predicates::read_zero, crate::specs::Places::next_node, crate::specs::Places::near_first, crate::specs::Places::near_second))]
+#[tactic(auto, using(predicate::specs::Predicates::read_zero, predicate::specs::Predicates::read_node, crate::specs::Places::near_first, crate::specs::Places::near_second))]
 pub fn skip(pool: &[u8], words: &[u8], depth: usize, at: usize) -> usize
     requires { Near words.now at }
     ensures { result ≡ (predicate_at pool.now (words_of words.now) depth at).next }
