@@ -14,14 +14,16 @@ use Rattle.operators.specs.declared.Operator.TheVariants.{Equal}
 use Rattle.literals.specs.Literals.{Value, value_of, value_at}
 use Rattle.literals.specs.declared.Literal.{Literal}
 use Rattle.predicate.specs.Checking.{type_in}
-use Rattle.predicate.specs.Predicates.{values_at, length_values}
+use Rattle.predicate.specs.Predicates.{Read, node_predicate, values_at, length_values}
+use Rattle.predicate.specs.declared.Node.{Node}
+use Rattle.predicate.specs.declared.Node.TheVariants.{Constant, Join, Not, TruthColumn, IsNull, IsNotNull, Comparison, List as InList, Like}
 use Rattle.predicate.specs.declared.Column.{Column}
 use Rattle.statistics.specs.declared.Statistic.{Statistic}
 use Rattle.table.specs.declared.Known.{Known}
 use Rattle.table.specs.declared.Known.TheVariants.{False, True, Open}
 use Rattle.knowing.specs.Knowns.{known_bounded, known_like}
 use Rattle.table.specs.Comparisons.{turned, comparison_lists, pattern_upper, like_lists}
-use Rattle.table.specs.Rewriting.{column_lists, list_operator, comparison_statistics, members_lists, list_lists}
+use Rattle.table.specs.Rewriting.{column_lists, list_operator, comparison_statistics, members_lists, list_lists, not_lists}
 use Rattle.listing.specs.Listing.{Room, Grown, is_bounded}
 use Rattle.listing.specs.ListingLaws.{room_first, room_next, grown_then, grown_none, like_listed_lem}
 use Rattle.turning.specs.Turns.{Turns}
@@ -113,3 +115,17 @@ bounded_known v = go (pattern_upper v)
     go : (o : MathOption.Option (List ℕ)) → is_bounded o ≡ is_open (known_bounded o)
     go none = refl
     go (some u) = refl
+
+-- ---- NOT
+
+-- of all but a truth-value column nothing
+pub not_other : (f : ℕ → Read) (pool ws : List ℕ) (at : ℕ) (n : Node) → ((c : Column) → n ≡ TruthColumn c → ⊥) → not_lists (node_predicate f pool ws at n).predicate ≡ []
+not_other f pool ws at (Constant t) h = refl
+not_other f pool ws at (Join j) h = refl
+not_other f pool ws at Not h = refl
+not_other f pool ws at (TruthColumn c) h = absurd (h c refl)
+not_other f pool ws at (IsNull c) h = refl
+not_other f pool ws at (IsNotNull c) h = refl
+not_other f pool ws at (Comparison o c n b l) h = refl
+not_other f pool ws at (InList b c n k) h = refl
+not_other f pool ws at (Like b c l) h = refl
