@@ -5,7 +5,7 @@ use Rattle.words.specs.Word.{words_of, bytes_of}
 use Rattle.words.specs.WordLaws.{length_bytes}
 use Rattle.text.specs.Utf8.{Each}
 use Rattle.predicate.specs.Checking.{predicate_fault}
-use Rattle.predicate.specs.Calls.{Rooms}
+use Rattle.predicate.specs.declared.Rooms.{Rooms}
 use Rattle.statistics.specs.declared.Statistic.{Statistic}
 use Rattle.statistics.specs.Statistics.{statistic_words}
 use Rattle.statistics.specs.ListLaws.{length_statistics}

@@ -13,7 +13,7 @@ use Rattle.literals.specs.Literals.{plain, suits}
 use Rattle.text.specs.Utf8.{Each}
 use Rattle.predicate.specs.declared.Column.{Column}
 use Rattle.predicate.specs.declared.Progress.{Progress}
-use Rattle.predicate.specs.declared.Checked.TheVariants.{Passed}
+use Rattle.predicate.specs.Checked.{Passed}
 use Rattle.predicate.specs.Predicates.{node_at}
 use Rattle.predicate.specs.Checking.{schema_fine, type_in, missing, formed, limited, columned, literal_limited, patterned, after_literal, passes, check_literal, node_fault, predicate_fault}
 use Rattle.predicate.specs.CheckingLaws.{Fault}

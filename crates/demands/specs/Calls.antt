@@ -4,7 +4,8 @@ use Rattle.std.specs.Prelude.{◌≡◌, refl, List, ℕ, ◌*◌, length, get_o
 use Rattle.words.specs.Word.{words_of}
 use Rattle.words.specs.Layout.{field}
 use Rattle.predicate.specs.Predicates.{Predicate}
-use Rattle.predicate.specs.Calls.{Rooms, rewrite_fault}
+use Rattle.predicate.specs.Calls.{rewrite_fault}
+use Rattle.predicate.specs.declared.Rooms.{Rooms}
 use Rattle.table.specs.Worth.{Cells}
 use Rattle.pruning.specs.Cells.{cell_of}
 use Rattle.spill.specs.Rewrite.{Outcome, writes, rewriting, predicate_of, answer_layout, table_out, pool_out, statistics_out, guarantees_out}

@@ -14,7 +14,8 @@ use Rattle.orders.specs.Order.{order_by}
 use Rattle.predicate.specs.Nodes.{node_of}
 use Rattle.predicate.specs.Predicates.{values_at, predicate_at}
 use Rattle.predicate.specs.Checking.{types_fine, formed, check_literal, check_literals, node_fault, check_from, predicate_fault}
-use Rattle.predicate.specs.Calls.{Rooms, rewrite_fault}
+use Rattle.predicate.specs.Calls.{rewrite_fault}
+use Rattle.predicate.specs.declared.Rooms.{Rooms}
 use Rattle.statistics.specs.Statistics.{statistic_of, statistics_of, place_of, added, added_all}
 use Rattle.table.specs.Comparisons.{minuses, turned}
 use Rattle.table.specs.Rewriting.{members_table, members_lists, rewritten, lists}

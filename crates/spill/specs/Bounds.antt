@@ -34,18 +34,6 @@ use Rattle.spill.specs.Rewrite.{predicate_of}
 
 -- ---- a refusal's number
 
-pub number_above : (r : Refusal) → number_of r ≡ 0 → ⊥
-number_above BadSchema e = omega arith
-number_above BadLimit e = omega arith
-number_above NoRoom e = omega arith
-number_above Malformed e = omega arith
-number_above OverLimit e = omega arith
-number_above Misfit e = omega arith
-number_above BadContainers e = omega arith
-number_above BadTable e = omega arith
-number_above BadGrid e = omega arith
-number_above BadAnswers e = omega arith
-
 pub number_below : (r : Refusal) → number_of r < 2 ^ 8
 number_below BadSchema = omega arith
 number_below BadLimit = omega arith

@@ -17,6 +17,7 @@ use Rattle.words.specs.Word.{word_at, words_of}
 use Rattle.words.specs.WordLaws.{AllBelow, length_words, words_at, word_drop}
 use Rattle.words.specs.Stores.{sets_front}
 use Rattle.literals.specs.Literals.{null}
+use Rattle.predicate.specs.Checked.{number_some}
 use Rattle.predicate.specs.Checking.{schema_fine}
 use Rattle.statistics.specs.Statistics.{place_of}
 use Rattle.statistics.specs.Reading.{length_read}
@@ -30,7 +31,6 @@ use Rattle.evaluating.specs.Rows.{row_cells}
 use Rattle.evaluating.specs.FromChecks.{checked_says}
 use Rattle.flagging.specs.Flags.{width, Fits, flag_for, flags_for, length_flags, next_row}
 use Rattle.spill.specs.Prune.{Call, list_in, table_in, grid_fine, prune_fault, flag_in, flags_from, pruning}
-use Rattle.spill.specs.Bounds.{number_above}
 use Rattle.spill.specs.Done.{Flagged}
 
 -- ---- a container's row and its cells
@@ -175,7 +175,7 @@ fits c p k =
 
 pub flagged_refused : (c : Call) (r : Refusal) (old : List ℕ) → number_of r ≡ prune_fault c → Flagged (pruning c) old old (number_of r)
 unfolding pruning
-flagged_refused c r old e = go (number_of r) (number_above r) e
+flagged_refused c r old e = go (number_of r) (number_some r) e
   where
     go : (n : ℕ) → (n ≡ 0 → ⊥) → n ≡ prune_fault c → Flagged (pruning c) old old n
     go zero h e = absurd (h refl)

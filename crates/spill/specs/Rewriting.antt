@@ -9,6 +9,7 @@ use Rattle.words.specs.Word.{words_of, bytes_of}
 use Rattle.words.specs.WordLaws.{length_bytes}
 use Rattle.words.specs.Layout.{packed}
 use Rattle.words.specs.Stores.{written, sets_front, take_written, length_written}
+use Rattle.predicate.specs.Checked.{number_some}
 use Rattle.predicate.specs.Predicates.{Predicate, predicate_at}
 use Rattle.predicate.specs.Calls.{rewrite_fault}
 use Rattle.predicate.specs.declared.Rooms.{Rooms}
@@ -31,7 +32,7 @@ use Rattle.words.specs.declared.Walked.{Walked}
 use Rattle.promising.specs.Wrote as Promised
 use Rattle.promising.specs.Wrote.{whole_room}
 use Rattle.spill.specs.Rewrite.{answer_layout, predicate_of, outputs, rewriting, answer_word}
-use Rattle.spill.specs.Bounds.{Taken, taken, call_list, number_above}
+use Rattle.spill.specs.Bounds.{Taken, taken, call_list}
 use Rattle.spill.specs.Done.{Buffers, Rewrote}
 
 -- the four outputs of a call
@@ -56,7 +57,7 @@ refusal_word n = omega arith
 pub rewrote_refused : (schema predicate pool : List ℕ) (limit : ℕ) (b : Buffers) (r : Refusal) → number_of r ≡ rewrite_fault schema predicate pool limit (rooms_of b)
     → Rewrote (rewriting schema predicate pool limit (rooms_of b)) b b (number_of r * 2 ^ 56)
 unfolding rewriting
-rewrote_refused schema predicate pool limit b r e = go (number_of r) (number_above r) e
+rewrote_refused schema predicate pool limit b r e = go (number_of r) (number_some r) e
   where
     go : (n : ℕ) → (n ≡ 0 → ⊥) → n ≡ rewrite_fault schema predicate pool limit (rooms_of b) → Rewrote (rewriting schema predicate pool limit (rooms_of b)) b b (n * 2 ^ 56)
     go zero h e = absurd (h refl)
