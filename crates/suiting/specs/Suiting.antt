@@ -186,15 +186,19 @@ module _ (pool : List ℕ) (w : ℕ) (below : w < 2 ^ 64) where
       go false true e f = integer_fits pool w below (eqb-false w 0 e) (eqb-true _ _ f)
       go false false e f = integer_unfit pool w below (eqb-false w 0 e) (eqb-false _ _ f)
 
-  pub text_test : fitting pool text_type w ≡ (eqb w 0 || (eqb (w / 2 ^ 62) 2 && (eqb (zero_of w) 0 && leb (offset_of w + length_of w) (length pool))))
-  text_test = go (eqb w 0) (eqb (w / 2 ^ 62) 2) (eqb (zero_of w) 0) refl refl refl
+  pub text_test : fitting pool text_type w ≡ (eqb w 0 || (eqb (type_of w) text_type && (eqb (zero_of w) 0 && leb (offset_of w + length_of w) (length pool))))
+  text_test = go (eqb w 0) (eqb (type_of w) text_type) (eqb (zero_of w) 0) refl refl refl
     where
-      go : (x y z : Bool) → eqb w 0 ≡ x → eqb (w / 2 ^ 62) 2 ≡ y → eqb (zero_of w) 0 ≡ z
+      go : (x y z : Bool) → eqb w 0 ≡ x → eqb (type_of w) text_type ≡ y → eqb (zero_of w) 0 ≡ z
           → fitting pool text_type w ≡ (x || (y && (z && leb (offset_of w + length_of w) (length pool))))
       go true y z e f g = fitting_none pool text_type w (eqb-true w 0 e)
-      go false true true e f g = text_fits pool w below (eqb-false w 0 e) (eqb-true _ _ f) (eqb-true _ _ g)
+      go false true true e f g =
+          let t = eqb-true (type_of w) text_type f in
+          text_fits pool w below (eqb-false w 0 e) (omega arith) (eqb-true _ _ g)
       go false true false e f g = field_unfit pool w below (eqb-false w 0 e) text_type (eqb-false _ _ g)
-      go false false z e f g = text_unfit pool w below (eqb-false w 0 e) (eqb-false _ _ f)
+      go false false z e f g =
+          let t = eqb-false (type_of w) text_type f in
+          text_unfit pool w below (eqb-false w 0 e) (λ k. t (omega arith))
 
   pub truth_test : fitting pool truth_type w ≡ (eqb w 0 || eqb (w / 2) 6917529027641081856)
   truth_test = go (eqb w 0) refl

@@ -7,12 +7,14 @@ ghost use Rattle.suiting.specs.Suiting.{fitting};
 
 use literals::Literal;
 
-// Null, or an integer's word inside the pool: its type, length and zero field are tested at once.
+// Null, or an integer's word inside the pool: type 1, length 8 and zero field 0 are its upper 40 bits, tested at once for speed.
 #[tactic(auto, using(crate::specs::Suiting::integer_test))]
 pub fn integer_suits(pool: &[u8], w: u64) -> bool
     ensures { result ≡ fitting pool.now integer_type w }
 {
-    w == 0 || (w / 16777216 == 275012124672 && literals::offset_of(w) + 8 <= pool.len())
+    w == 0
+        || (w >> 24 == (1 << 38) + (8 << 24)
+            && literals::offset_of(w) + Literal::INTEGER_BYTES <= pool.len())
 }
 
 // Null, or a text's word inside the pool.
@@ -21,7 +23,7 @@ fn text_suits(pool: &[u8], w: u64) -> bool
     ensures { result ≡ fitting pool.now text_type w }
 {
     w == 0
-        || (w / 4611686018427387904 == 2
+        || (literals::type_of(w) == Literal::TEXT
             && literals::zero_of(w) == 0
             && literals::offset_of(w) + literals::length_of(w) <= pool.len())
 }
@@ -31,7 +33,7 @@ fn text_suits(pool: &[u8], w: u64) -> bool
 fn truth_suits(pool: &[u8], w: u64) -> bool
     ensures { result ≡ fitting pool.now truth_type w }
 {
-    w == 0 || w / 2 == 6917529027641081856
+    w == 0 || w >> 1 == 3 << 61
 }
 
 // Null, or a word of the type asked, of that type's length or truth value, inside the pool; no unnamed field set.
