@@ -19,7 +19,6 @@ use words::Walked;
 
 // Lists what the predicate at a place asks for, both sides of AND and OR always: build_predicate_expression. It answers how many
 // statistics are listed by then, and the place behind the predicate.
-#[tactic(auto, unfolding(table::specs::Rewriting::lists), using(predicate::specs::Predicates::read_zero, predicate::specs::Predicates::read_node, walking::specs::Places::near_first, walking::specs::Places::near_second, listing::specs::ListingLaws::grown_none, listing::specs::ListingLaws::room_first, listing::specs::ListingLaws::room_next, listing::specs::ListingLaws::grown_then))]
 pub fn list_at(r: &Request<'_>, depth: usize, at: usize, list: &mut [u8], n: usize) -> Walked<usize>
     requires { Near r.now.words.now at × Fine r.now.schema.now (predicate_at r.now.pool.now (words_of r.now.words.now) depth at).predicate × Room (lists r.now.limit r.now.schema.now (predicate_at r.now.pool.now (words_of r.now.words.now) depth at).predicate) n list.old }
     ensures next { result.next ≡ (predicate_at r.now.pool.now (words_of r.now.words.now) depth at).next }
