@@ -10,7 +10,6 @@ use native.Mathlib.Omega.{arith}
 use lib.ListN.{get_or}
 use borrow.Author.Tests.{le-leb, lt-leb}
 use Rattle.operators.specs.declared.Operator.{Operator}
-use Rattle.operators.specs.declared.Operator.TheVariants.{Equal}
 use Rattle.literals.specs.Literals.{Value, value_of, value_at}
 use Rattle.literals.specs.declared.Literal.{Literal}
 use Rattle.predicate.specs.Checking.{type_in}
@@ -22,10 +21,10 @@ use Rattle.statistics.specs.declared.Statistic.{Statistic}
 use Rattle.table.specs.declared.Known.{Known}
 use Rattle.table.specs.declared.Known.TheVariants.{False, True, Open}
 use Rattle.knowing.specs.Knowns.{known_bounded, known_like}
-use Rattle.table.specs.Comparisons.{turned, comparison_lists, pattern_upper, like_lists}
-use Rattle.table.specs.Rewriting.{column_lists, list_operator, comparison_statistics, members_lists, list_lists, not_lists}
+use Rattle.table.specs.Comparisons.{turned, comparison_lists, pattern_upper}
+use Rattle.table.specs.Rewriting.{list_operator, comparison_statistics, members_lists, list_lists, not_lists}
 use Rattle.listing.specs.Listing.{Room, Grown, is_bounded}
-use Rattle.listing.specs.ListingLaws.{room_first, room_next, grown_then, grown_none, like_listed_lem}
+use Rattle.listing.specs.ListingLaws.{room_first, room_next, grown_then, grown_none}
 use Rattle.turning.specs.Turns.{Turns}
 use Rattle.turning.specs.declared.Against.{Against}
 
