@@ -10,14 +10,11 @@ use Rattle.std.proofs.Math.Seq.{get_or-take}
 use Rattle.std.proofs.Math.Dec.{ltb}
 use borrow.Author.Tests.{eqb-true, leb-true, ltb-true}
 use Rattle.limits.specs.Limits.{max_containers, bad_schema, bad_containers, bad_table, bad_grid}
-use Rattle.limits.specs.Refusals.{number_of}
-use Rattle.limits.specs.declared.Refusal.{Refusal}
 use Rattle.words.specs.Tests.{and_both}
 use Rattle.words.specs.Word.{word_at, words_of}
 use Rattle.words.specs.WordLaws.{AllBelow, length_words, words_at, word_drop}
 use Rattle.words.specs.Stores.{sets_front}
 use Rattle.literals.specs.Literals.{null}
-use Rattle.predicate.specs.Checked.{number_some}
 use Rattle.predicate.specs.Checking.{schema_fine}
 use Rattle.statistics.specs.Statistics.{place_of}
 use Rattle.statistics.specs.Reading.{length_read}
@@ -173,21 +170,19 @@ fits c p k =
 
 -- ---- what the call returns and leaves
 
-pub flagged_refused : (c : Call) (r : Refusal) (old : List ℕ) → number_of r ≡ prune_fault c → Flagged (pruning c) old old (number_of r)
+pub flagged_refused : (c : Call) (n : ℕ) (old : List ℕ) → n ≡ prune_fault c → (n ≡ 0 → ⊥) → Flagged (pruning c) old old n
 unfolding pruning
-flagged_refused c r old e = go (number_of r) (number_some r) e
-  where
-    go : (n : ℕ) → (n ≡ 0 → ⊥) → n ≡ prune_fault c → Flagged (pruning c) old old n
-    go zero h e = absurd (h refl)
-    go (suc n) h e = rw (← e) (record { result = refl; flags = refl })
+flagged_refused c zero old e h = absurd (h refl)
+flagged_refused c (suc n) old e h = rw (← e) (record { result = refl; flags = refl })
 
-pub flagged_done : (c : Call) (old new : List ℕ) → 0 ≡ prune_fault c → c.room ≡ length old
+pub flagged_done : (c : Call) (n : ℕ) (old new : List ℕ) → n ≡ prune_fault c → n ≡ 0 → c.room ≡ length old
     → new ≡ sets old 0 (row_flags c 0 c.containers) → Flagged (pruning c) old new 0
 unfolding pruning
-flagged_done c old new e l s =
-    let p = passed c (sym e) in
+flagged_done c n old new e z l s =
+    let q : prune_fault c ≡ 0 = sym e ∙ z in
+    let p = passed c q in
     let f : flags_from c 0 c.containers ≡ row_flags c 0 c.containers = flags_from_lem c p.cells 0 c.containers (omega arith) in
     let k : length (row_flags c 0 c.containers) ≡ c.containers =
     length_flags c.statistics c.pool c.table c.guarantees c.cells c.grid c.answers 0 c.containers in
     let r = p.room in
-    rw (← e, f) (record { result = refl; flags = s ∙ sets_front old (row_flags c 0 c.containers) (omega arith) })
+    rw (q, f) (record { result = refl; flags = s ∙ sets_front old (row_flags c 0 c.containers) (omega arith) })

@@ -3,13 +3,10 @@ use Rattle.std.specs.Prelude.{◌≡◌, refl, List, [], ◌∷◌, ℕ, zero, s
 use Rattle.std.proofs.Common.{sym, ap, ◌∙◌, zero-add, arith, length-take-le}
 use Rattle.std.proofs.lemmas.List.Edits.{sets}
 use Rattle.limits.specs.Limits.{max_depth}
-use Rattle.limits.specs.Refusals.{number_of}
-use Rattle.limits.specs.declared.Refusal.{Refusal}
 use Rattle.words.specs.Word.{words_of, bytes_of}
 use Rattle.words.specs.WordLaws.{length_bytes}
 use Rattle.words.specs.Layout.{packed}
 use Rattle.words.specs.Stores.{written, sets_front, take_written, length_written}
-use Rattle.predicate.specs.Checked.{number_some}
 use Rattle.predicate.specs.Predicates.{Predicate, predicate_at}
 use Rattle.predicate.specs.Calls.{rewrite_fault}
 use Rattle.predicate.specs.declared.Rooms.{Rooms}
@@ -54,14 +51,12 @@ rooms_of b =
 refusal_word : (n : ℕ) → n * 2 ^ 56 ≡ packed answer_layout (n ∷ 0 ∷ 0 ∷ 0 ∷ 0 ∷ 0 ∷ [])
 refusal_word n = omega arith
 
-pub rewrote_refused : (schema predicate pool : List ℕ) (limit : ℕ) (b : Buffers) (r : Refusal) → number_of r ≡ rewrite_fault schema predicate pool limit (rooms_of b)
-    → Rewrote (rewriting schema predicate pool limit (rooms_of b)) b b (number_of r * 2 ^ 56)
+pub rewrote_refused : (schema predicate pool : List ℕ) (limit : ℕ) (b : Buffers) (n : ℕ) → n ≡ rewrite_fault schema predicate pool limit (rooms_of b)
+    → (n ≡ 0 → ⊥) → Rewrote (rewriting schema predicate pool limit (rooms_of b)) b b (n * 2 ^ 56)
 unfolding rewriting
-rewrote_refused schema predicate pool limit b r e = go (number_of r) (number_some r) e
-  where
-    go : (n : ℕ) → (n ≡ 0 → ⊥) → n ≡ rewrite_fault schema predicate pool limit (rooms_of b) → Rewrote (rewriting schema predicate pool limit (rooms_of b)) b b (n * 2 ^ 56)
-    go zero h e = absurd (h refl)
-    go (suc n) h e = rw (← e) (record { answer = refusal_word (suc n); table = refl; pool = refl; statistics = refl; guarantees = refl })
+rewrote_refused schema predicate pool limit b zero e h = absurd (h refl)
+rewrote_refused schema predicate pool limit b (suc n) e h =
+    rw (← e) (record { answer = refusal_word (suc n); table = refl; pool = refl; statistics = refl; guarantees = refl })
 
 -- ---- an accepted call
 
@@ -170,8 +165,8 @@ module _ (schema predicate pool : List ℕ) (limit : ℕ) (old : Buffers) (e : r
         guarantees = front_set old.guarantees (bytes_of (guarantee_words (guarantees 0 asked))) new.guarantees lg p.bytes;
       }
 
-pub rewrote_done : (schema predicate pool : List ℕ) (limit : ℕ) (old new : Buffers) (r : ℕ) → 0 ≡ rewrite_fault schema predicate pool limit (rooms_of old)
-    → Rewrote (outputs limit schema (predicate_of predicate pool)) old new r
+pub rewrote_done : (schema predicate pool : List ℕ) (limit : ℕ) (old new : Buffers) (n r : ℕ) → n ≡ rewrite_fault schema predicate pool limit (rooms_of old)
+    → n ≡ 0 → Rewrote (outputs limit schema (predicate_of predicate pool)) old new r
     → Rewrote (rewriting schema predicate pool limit (rooms_of old)) old new r
 unfolding rewriting
-rewrote_done schema predicate pool limit old new r e w = rw (← e) w
+rewrote_done schema predicate pool limit old new n r e z w = let q : rewrite_fault schema predicate pool limit (rooms_of old) ≡ 0 = sym e ∙ z in rw q w

@@ -1,5 +1,6 @@
 -- A refusal writes nothing; else every container's flag is written. Assumes nothing.
 use mathlib.Core.Path.{refl, sym}
+use Rattle.predicate.specs.Checked.{number_some}
 use Rattle.spill.specs.Pruning.{passed, fits, flagged_refused, flagged_done}
 use Rattle.spill.proofs.spill_prune.Goals as goal
 
@@ -9,8 +10,8 @@ prune_flags-requires c =
 
 pub returns-in-Ok : goal.returns-in-Ok
 returns-in-Ok c =
-    flagged_done _ _ _ c.in-Ok.ensures refl c.prune_flags.ensures
+    flagged_done _ _ _ _ c.in-Ok.ensures refl refl c.prune_flags.ensures
 
 pub returns-in-Err : goal.returns-in-Err
 returns-in-Err c =
-    rw (c.from-in-Err.ensures, c.from.ensures) (flagged_refused _ c.in-Err.refusal _ c.in-Err.ensures)
+    rw (c.from-in-Err.ensures, c.from.ensures) (flagged_refused _ _ _ c.in-Err.ensures (number_some c.in-Err.refusal))
