@@ -1,7 +1,7 @@
 -- A table's word by its kind, and past the end. Assumes nothing.
-use Rattle.std.specs.Prelude.{◌≡◌, refl, Bool, true, false, ◌&&◌, Option, None, Some, List, ℕ, ◌+◌, ◌/◌, ◌≤◌, length, get_or, eqb, ltb}
-use Rattle.std.proofs.Common.{ap, ◌∙◌}
-use Rattle.std.proofs.Math.ListN.{get_or-map}
+use Rattle.std.specs.Prelude.{◌≡◌, refl, Bool, true, false, ◌&&◌, Option, None, Some, List, [], ◌∷◌, ℕ, ◌+◌, ◌/◌, ◌≤◌, length, get_or, eqb, ltb}
+use Rattle.std.proofs.Common.{ap, ◌∙◌, arith, le-ltb}
+use Rattle.std.proofs.Math.ListN.{get_or-eq_default, get_or-map}
 use Rattle.words.specs.WordLaws.{words_past}
 use Rattle.words.specs.Word.{words_of}
 use Rattle.operators.specs.Operators.{operator_of}
@@ -34,6 +34,36 @@ module _ (pool : List ℕ) (w l : ℕ) where
   unfolding table_node_of
   node_kinds = get_or-map node_by kinds (kind_of w) None
 
+-- kinds from 8 on are unknown
+pub node_other : (pool : List ℕ) (w l : ℕ) → 8 ≤ kind_of w → table_node_of pool w l ≡ Always true
+unfolding table_node_of
+node_other pool w l h =
+    get_or-eq_default
+    (Always (eqb (operator_field w) 1)
+    ∷ Join JoinAnd
+    ∷ Join JoinOr
+    ∷ Against (or_equal (operator_of (operator_field w))) (first_of w) (eqb (literal_first_field w) 1) (literal_of pool l)
+    ∷ Positive (first_of w)
+    ∷ Differ (first_of w) (second_of w)
+    ∷ Holds (first_of w)
+    ∷ Negation
+    ∷ [])
+    (Always true) h
+
+shape_other : (k : ℕ) → 8 ≤ k → table_shape_of k ≡ naming 0 false false false
+shape_other k h =
+    get_or-eq_default
+    (naming 2 false false false
+    ∷ naming 1 false false false
+    ∷ naming 1 false false false
+    ∷ naming 6 true false true
+    ∷ naming 1 true false false
+    ∷ naming 1 true true false
+    ∷ naming 1 true false false
+    ∷ naming 1 false false false
+    ∷ [])
+    (naming 0 false false false) h
+
 -- what a kind has; an unknown kind has no operator
 abbrev pub shape_by : Option Kind → TableShape
 shape_by (Some k) = table_shape_of (number_of_kind k)
@@ -50,6 +80,10 @@ formed_so w s =
 pub formed_kinds : (w : ℕ) → table_formed w ≡ formed_so w (shape_by (kind_named (kind_of w)))
 unfolding table_formed
 formed_kinds w = ap (formed_so w) (get_or-map shape_by kinds (kind_of w) None)
+
+pub formed_other : (w : ℕ) → 8 ≤ kind_of w → table_formed w ≡ false
+unfolding table_formed
+formed_other w h = ap (formed_so w) (shape_other (kind_of w) h) ∙ rw (le-ltb (operator_field w) 0 (omega arith))
 
 -- past the end
 node_none : (pool : List ℕ) (l : ℕ) → table_node_of pool 0 l ≡ Always false
