@@ -1,11 +1,12 @@
 -- The grid column by column, which says the same as row by row. Assumes nothing.
-use Rattle.std.specs.Prelude.{◌≡◌, Bool, true, false, ◌&&◌, get_or, drop}
+use Rattle.std.specs.Prelude.{◌≡◌, Bool, true, false, not, ◌&&◌, get_or, drop}
 use Rattle.std.proofs.Math.Path.{refl}
-use Rattle.std.proofs.Common.{sym, ap, ◌∙◌, suc-mul, mul-le-mul_right, add-one, drop_of_length-le, drop-cons}
+use Rattle.std.proofs.Common.{sym, ap, ◌∙◌, suc-mul, mul-le-mul_right, add-one, sub-one, drop_of_length-le, drop-cons}
 use mathlib.Core.List.{List, [], ◌∷◌}
 use Prim.Native.Nat.{ℕ, zero, suc, ◌+◌, ◌*◌, ◌-◌, ◌/◌, ◌^◌, ◌≤◌, ◌<◌}
 use native.Mathlib.Omega.{arith}
 use Rattle.std.proofs.Math.ListN.{length}
+use Rattle.std.proofs.lemmas.Bool.{not-true, not-false}
 use Rattle.limits.specs.Limits.{max_statistics}
 use Rattle.words.specs.Word.{word_at, words_of}
 use Rattle.words.specs.WordLaws.{length_words, words_at}
@@ -120,6 +121,35 @@ module _ (test : ℕ → Bool) (gs : List ℕ) (wide n at : ℕ) where
       ap (λ (m : ℕ). cells_pass test (words_of gs) wide m i) x
       ∙ rw (words_at gs i k, ← e, ← t) (ap (λ (j : ℕ). b && cells_pass test (words_of gs) wide (n - (row + 1)) j) y)
 
+module _ (pool : List ℕ) (type : ℕ) (gs : List ℕ) (wide : ℕ) where
+  abbrev pub column_from : ℕ → ℕ → Bool
+  column_from left at = column_fine pool type (words_of gs) wide left at
+
+  pub column_end : (left at : ℕ) → left ≤ 0 → column_from left at ≡ true
+  unfolding cells_pass
+  column_end zero at h = refl
+  column_end (suc left) at h = absurd (omega arith)
+
+  -- v is the cell's word
+  module _ (at : ℕ) (k : at < length gs / 8) (v : ℕ) (g : v ≡ word_at gs (8 * at)) (b : Bool) (c : b ≡ fitting pool type v) where
+    column_is : (left : ℕ) → 0 < left → column_from left at ≡ (b && column_from (left - 1) (at + wide))
+    unfolding cells_pass
+    column_is zero h = absurd (omega arith)
+    column_is (suc left) h = rw (words_at gs at k, ← g, ← c, sub-one)
+
+    pub column_faulty : (left : ℕ) → 0 < left → not b ≡ true → column_from left at ≡ false
+    column_faulty left h n = column_is left h ∙ rw (not-true b n)
+
+    pub column_next : (left : ℕ) → 0 < left → not b ≡ false → column_from left at ≡ column_from (left - 1) (at + wide)
+    column_next left h n = column_is left h ∙ rw (not-false b n)
+
+-- the room of so many cells of a column that begins at a place of the first row: for the next, and for the rest behind it
+pub column_room : (left i wide at m : ℕ) → 0 < left → at < wide → i + left * wide ≤ at + m → (i < m) × (i + wide + (left - 1) * wide ≤ at + m)
+column_room zero i wide at m h k r = absurd (omega arith)
+column_room (suc left) i wide at m h k r =
+    let e : suc left * wide ≡ left * wide + wide = suc-mul left wide in
+    (omega arith, rw sub-one (omega arith))
+
 -- ---- columns, one after the other: the list and the grid in bytes
 
 module _ (schema pool bs gs : List ℕ) (n : ℕ) where
@@ -147,3 +177,9 @@ module _ (schema pool bs gs : List ℕ) (n : ℕ) where
     pub columns_is : columns_from p ≡ (b && columns_from (p + 1))
     unfolding columns_fine
     columns_is = rw (here, ← t, ← c)
+
+    pub columns_faulty : not b ≡ true → columns_from p ≡ false
+    columns_faulty k = columns_is ∙ rw (not-true b k)
+
+    pub columns_next : not b ≡ false → columns_from p ≡ columns_from (p + 1)
+    columns_next k = columns_is ∙ rw (not-false b k)
