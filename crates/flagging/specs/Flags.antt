@@ -22,6 +22,30 @@ use Rattle.evaluating.specs.Ready.{Ready}
 
 -- ---- answers
 
+module _ (answers gs : List ℕ) where
+  -- by the guarantees from place i of their words on
+  abbrev pub drops_from : ℕ → ℕ → Bool
+  drops_from i at = answers_drop answers (drop i (words_of gs)) at
+
+  pub drops_end : (i at : ℕ) → length gs / 8 ≤ i → drops_from i at ≡ false
+  unfolding answers_drop
+  drops_end i at h = rw (drop_of_length-le (words_of gs) {i = i} (rw length_words h))
+
+  -- the guarantee g at place i, and its answer a
+  module _ (i at : ℕ) (h : i < length gs / 8) (g : ℕ) (e : g ≡ get_or (words_of gs) i 0) (a : ℕ) (f : a ≡ get_or answers (at + i) 0)
+      (b : Bool) (c : b ≡ answer_drops (eqb (not_in_field g) 1) a) where
+    drops_are : drops_from i (at + i) ≡ (b || drops_from (i + 1) (at + (i + 1)))
+    unfolding answers_drop
+    drops_are =
+        let x : at + i + 1 ≡ at + (i + 1) = omega arith in
+        rw (drop-cons (words_of gs) i 0 (rw length_words h), ← e, ← f, ← c, x, add-one)
+
+    pub drops_here : b ≡ true → drops_from i (at + i) ≡ true
+    drops_here t = drops_are ∙ rw t
+
+    pub drops_next : b ≡ false → drops_from i (at + i) ≡ drops_from (i + 1) (at + (i + 1))
+    drops_next t = drops_are ∙ rw t
+
 -- n guarantees from place a of their words on, their answers from place at on
 module _ (answers gs : List ℕ) (at : ℕ) where
   abbrev pub drops_at : ℕ → Bool
@@ -101,4 +125,12 @@ pub next_row : (i n w m : ℕ) → i < n → n * w ≤ m → i * w + w ≤ m
 next_row i n w m h k =
     let p : suc i * w ≤ n * w = mul-le-mul_right w h in
     let e : suc i * w ≡ i * w + w = suc-mul i w in
+    omega arith
+
+pub one_more : (i w : ℕ) → i * w + w ≡ (i + 1) * w
+one_more i w = rw (add-one, suc-mul i w)
+
+pub few_answers : (i n g : ℕ) → i < n → n ≤ 4096 → g ≤ 1024 → i * (g / 8) + g / 8 ≤ 524288
+few_answers i n g h k l =
+    let p : i * (g / 8) + g / 8 ≤ 4096 * (g / 8) = next_row i 4096 (g / 8) (4096 * (g / 8)) (omega arith) (omega arith) in
     omega arith
