@@ -84,11 +84,12 @@ module _ (list pool table guars cells grid answers : List ℕ) where
       flag_of (worth (row_cells cells (list_of list) (words_of (row_of i))) (table_at (list_of list) pool (words_of table) max_table_depth 0).table)
       (answers_drop answers (words_of guars) (i * (length guars / 8)))
 
-  -- by the part of the grid that is its row
-  pub flag_at : (i v : ℕ) → v ≡ flag_of (worth (row_cells cells (list_of list) (words_of (take (i * width list + width list - i * width list) (drop (i * width list) grid))))
-      (table_at (list_of list) pool (words_of table) max_table_depth 0).table) (answers_drop answers (words_of guars) (i * (length guars / 8)))
+  -- by the part of the grid that begins where its row does, and the answers from its place on
+  pub flag_at : (i from at v : ℕ) → from ≡ i * width list → at ≡ i * (length guars / 8)
+      → v ≡ flag_of (worth (row_cells cells (list_of list) (words_of (take (from + width list - from) (drop from grid))))
+      (table_at (list_of list) pool (words_of table) max_table_depth 0).table) (answers_drop answers (words_of guars) at)
       → v ≡ flag_for i
-  flag_at i v g = g ∙ rw add-sub_cancel_left
+  flag_at i from at v e f g = g ∙ rw (add-sub_cancel_left, e, f)
 
   -- of n containers, from one on
   unfoldable pub flags_for : ℕ → ℕ → List ℕ

@@ -1,4 +1,5 @@
 -- After i turns the first i flags are stored. Assumes nothing.
+use Rattle.std.proofs.Math.Path.{refl}
 use Rattle.flagging.specs.Flags.{flags_none, flag_at, flag_stored}
 use Rattle.flagging.proofs.prune_flags.Goals as goal
 
@@ -11,4 +12,4 @@ loop-i-preserved c =
     let l = c.loop-i in
     rw l.invariant
     (flag_stored x.list.now x.pool.now x.table.now x.guarantees.now x.cells.now x.grid.now x.answers.now c.args.flags.now l.i c.container_flag.result
-    (flag_at x.list.now x.pool.now x.table.now x.guarantees.now x.cells.now x.grid.now x.answers.now l.i c.container_flag.result c.container_flag.ensures))
+    (flag_at x.list.now x.pool.now x.table.now x.guarantees.now x.cells.now x.grid.now x.answers.now l.i _ _ c.container_flag.result refl refl c.container_flag.ensures))
