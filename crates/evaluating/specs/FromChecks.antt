@@ -15,6 +15,8 @@ use Rattle.words.specs.Word.{words_of}
 use Rattle.words.specs.WordLaws.{AllBelow, below_tail, words_below}
 use Rattle.operators.specs.Operators.{operator_of}
 use Rattle.operators.specs.declared.Operator.{Operator}
+use Rattle.kleene.specs.declared.Joining.TheVariants.{And, Or}
+use Rattle.literals.specs.Literals.{literal_of}
 use Rattle.literals.specs.declared.Literal.{Literal}
 use Rattle.predicate.specs.Nodes.{or_equal}
 use Rattle.table.specs.Encoding.{kind_named}
@@ -26,7 +28,7 @@ use Rattle.statistics.specs.declared.Place.{Place}
 use Rattle.statistics.specs.declared.Statistic.{Statistic}
 use Rattle.statistics.specs.declared.Statistic.TheVariants.{Least, Greatest, Blanks, Rows}
 use Rattle.predicate.specs.declared.Column.{Column}
-use Rattle.pruning.specs.TableReading.{kind_of, operator_field, statistic_at, table_node_of, node_table, table_node_at, table_at}
+use Rattle.pruning.specs.TableReading.{kind_of, operator_field, literal_first_field, first_of, second_of, statistic_at, table_node_of, node_table, table_node_at, table_at}
 use Rattle.pruning.specs.NodeLaws.{node_by, node_kinds, shape_by, formed_so, formed_kinds}
 use Rattle.pruning.specs.TableChecking.{statistic_fine, stands_in, statistics_fine, guarantees_fine, table_formed, is_bound, is_blanks, is_rows, named, table_named, table_node_fine, table_behind, then_at, check_table_from, ends, table_fine, words_within, checked_table}
 use Rattle.pruning.specs.declared.TableNode.{TableNode}
@@ -48,6 +50,18 @@ asks_below (suc (suc (suc (suc (suc zero))))) h = tt
 asks_below (suc (suc (suc (suc (suc (suc n)))))) h = absurd (omega arith)
 
 module _ (pool : List ℕ) (w l : ℕ) where
+  abbrev nodes : List TableNode
+  nodes =
+      Always (eqb (operator_field w) 1)
+      ∷ Join And
+      ∷ Join Or
+      ∷ Against (or_equal (operator_of (operator_field w))) (first_of w) (eqb (literal_first_field w) 1) (literal_of pool l)
+      ∷ Positive (first_of w)
+      ∷ Differ (first_of w) (second_of w)
+      ∷ Holds (first_of w)
+      ∷ Negation
+      ∷ []
+
   formed_asks : table_formed w ≡ true → (o : Operator) (p : Place) (b : Bool) (v : Literal) → table_node_of pool w l ≡ Against o p b v → Asks o
   formed_asks f o p b v e = go (kind_named (kind_of w)) (sym (formed_kinds w) ∙ f) (sym (node_kinds pool w l) ∙ e)
     where

@@ -1,7 +1,8 @@
 -- One node on a row of cells, without its children, and what it says of the table that it begins. Assumes nothing.
-use Rattle.std.specs.Prelude.{◌≡◌, Some, Bool, true, false, List, ℕ, ◌+◌, ◌-◌, ◌/◌, ◌≤◌, ◌<◌, length, get_or, pos}
+use Rattle.std.specs.Prelude.{◌≡◌, Option, None, Some, Bool, true, false, List, ℕ, ◌+◌, ◌-◌, ◌/◌, ◌≤◌, ◌<◌, length, get_or, eqb, pos}
 use Rattle.std.proofs.Math.Path.{refl, ap}
 use Rattle.std.proofs.Common.{sym, ◌∙◌}
+use Rattle.std.proofs.Math.ListN.{get_or-eq_default}
 use Rattle.std.proofs.lemmas.Bool.{false≢true}
 use native.Mathlib.Omega.{arith}
 use Rattle.words.specs.Word.{words_of}
@@ -21,9 +22,10 @@ use Rattle.statistics.specs.ListLaws.{Distinct}
 use Rattle.statistics.specs.declared.Place.{Place}
 use Rattle.statistics.specs.declared.Statistic.{Statistic}
 use Rattle.table.specs.Worth.{worth}
-use Rattle.table.specs.Encoding.{kind_named}
+use Rattle.table.specs.Encoding.{kinds, kind_named}
+use Rattle.table.specs.declared.Kind.{Kind as KindOf}
 use Rattle.table.specs.declared.Kind.TheVariants as Kind
-use Rattle.pruning.specs.TableReading.{kind_of, operator_field, TableRead, table_node_of, node_table, table_node_at, table_at, table_node}
+use Rattle.pruning.specs.TableReading.{kind_of, operator_field, literal_first_field, first_of, second_of, TableRead, table_node_of, node_table, table_node_at, table_at, table_node}
 use Rattle.pruning.specs.NodeLaws.{node_by, node_kinds}
 use Rattle.pruning.specs.declared.TableNode.{TableNode}
 use Rattle.pruning.specs.declared.TableNode.TheVariants.{Always, Join, Against, Positive, Differ, Holds, Negation}
@@ -104,6 +106,45 @@ settled_is Or True True h = refl
 module _ (cells row pool : List ℕ) (w l : ℕ) where
   pub step_kinds : step_of cells row pool (table_node_of pool w l) ≡ step_of cells row pool (node_by pool w l (kind_named (kind_of w)))
   step_kinds = ap (step_of cells row pool) (node_kinds pool w l)
+
+  abbrev step : Step
+  step = step_of cells row pool (table_node_of pool w l)
+
+  pub step_always : kind_of w ≡ 0 → step ≡ Leaf (truth_of (eqb (operator_field w) 1)) 1
+  unfolding table_node_of
+  step_always h = rw h
+
+  pub step_and : kind_of w ≡ 1 → step ≡ Both And
+  unfolding table_node_of
+  step_and h = rw h
+
+  pub step_or : kind_of w ≡ 2 → step ≡ Both Or
+  unfolding table_node_of
+  step_or h = rw h
+
+  pub step_against : kind_of w ≡ 3
+      → step ≡ Leaf (compared_from (eqb (literal_first_field w) 1) (or_equal (operator_of (operator_field w))) (bound_in cells row (first_of w)) (value_at pool l)) 2
+  unfolding table_node_of
+  step_against h = rw h
+
+  pub step_positive : kind_of w ≡ 4 → step ≡ Leaf (compared Above (count_in cells row (first_of w)) (int (pos 0))) 1
+  unfolding table_node_of
+  step_positive h = rw h
+
+  pub step_differ : kind_of w ≡ 5 → step ≡ Leaf (compared NotEqual (count_in cells row (first_of w)) (count_in cells row (second_of w))) 1
+  unfolding table_node_of
+  step_differ h = rw h
+
+  pub step_holds : kind_of w ≡ 6 → step ≡ Leaf (truth_in (bound_in cells row (first_of w))) 1
+  unfolding table_node_of
+  step_holds h = rw h
+
+  pub step_turned : kind_of w ≡ 7 → step ≡ Turned
+  unfolding table_node_of
+  step_turned h = rw h
+
+  pub step_other : 8 ≤ kind_of w → step ≡ Leaf True 1
+  step_other h = step_kinds ∙ ap (λ (k : Option KindOf). step_of cells row pool (node_by pool w l k)) (get_or-eq_default kinds None h)
 
 -- the operator of a comparison
 pub against_asks : (pool : List ℕ) (w l : ℕ) → kind_named (kind_of w) ≡ Some Kind.Against → NodeAsks (table_node_of pool w l) → Asks (or_equal (operator_of (operator_field w)))
