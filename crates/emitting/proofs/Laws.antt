@@ -2,7 +2,8 @@
 use mathlib.Core.Path.{◌≡◌, refl, sym, subst}
 use mathlib.Core.Bool.{true}
 use mathlib.Core.List.{List}
-use Prim.Native.Nat.{ℕ, ◌+◌}
+use Prim.Native.Nat.{ℕ, zero, suc, ◌+◌, ◌-◌, ◌<◌}
+use native.Mathlib.Omega.{arith}
 use lib.ListN.{get_or}
 use Rattle.words.specs.declared.Walked.{Walked}
 use Rattle.kleene.specs.declared.Truth.{Truth}
@@ -21,6 +22,10 @@ use Rattle.table.specs.Rewriting.{constant_table, rewritten}
 use Rattle.folding.specs.Folds.{part_of}
 use Rattle.writing.specs.WritingLaws.{literal_fits}
 use Rattle.emitting.specs.Joins.{join_table}
+
+pub fall : (d t : ℕ) → (d ≡ 0 → ⊥) → d ≡ t → d - 1 < t
+fall zero t h e = absurd (h refl)
+fall (suc d) t h e = omega arith
 
 pub constant_other : (t : Truth) → (t ≡ False → ⊥) → constant_table t ≡ always true
 constant_other False h = absurd (h refl)

@@ -1,11 +1,14 @@
 -- The flips still to take of a comparison, and one of them taken. Assumes nothing.
-use Rattle.std.proofs.Common.{◌≡◌, refl, sym, ◌∙◌, ap, List, ℕ, suc, ◌+◌, ◌-◌, ◌<◌, ◌≤◌, arith, ◌⊎◌, inl, inr}
+use native.Mathlib.Numerals.{sub-one}
+use Rattle.std.proofs.Common.{zero, ◌≡◌, refl, sym, ◌∙◌, ap, List, ℕ, suc, ◌+◌, ◌-◌, ◌<◌, ◌≤◌, arith, ◌⊎◌, inl, inr}
 use Rattle.std.specs.Prelude.{ℤ, Option, Some, None, Bool}
+use Rattle.operators.specs.Operators.{swap_of}
 use Rattle.operators.specs.declared.Operator.{Operator}
 use Rattle.operators.specs.declared.Operator.TheVariants.{Equal, NotEqual, Below, AtMost, Above, AtLeast, Distinct, NotDistinct}
 use Rattle.literals.specs.Signed.{negated}
 use Rattle.literals.specs.Literals.{Value, null, int, text, truth, value_of, LiteralFits, LiteralInside}
 use Rattle.literals.specs.declared.Literal.{Literal}
+use Rattle.literals.specs.declared.Literal.TheVariants.{Int}
 use Rattle.table.specs.Comparisons.{Turned, asks, stays, minus_int, minus, minuses, flip_once, ordered, unturned, turned}
 use Rattle.turning.specs.Turns.{Turns, Negates}
 use Rattle.turning.specs.declared.Against.{Against}
@@ -92,3 +95,15 @@ turned_swap type NotDistinct flips first v d n = absurd (n refl)
 -- the same by another definition
 pub turns_as : (f g : Value → Turned) (l : Literal) (r : Option Against) → ((v : Value) → g v ≡ f v) → Turns f l r → Turns g l r
 turns_as f g l r e t = record { value = λ pool. t.value pool ∙ sym (e (value_of pool l)); inside = t.inside; fits = t.fits }
+
+-- ---- a minus of an integer, said of all the minuses
+
+minuses_more : (n : ℕ) (o : Operator) (v : Value) → (n ≡ 0 → ⊥) → minuses n o v ≡ minus (minuses (n - 1)) o v
+unfolding minuses
+minuses_more zero o v h = absurd (h refl)
+minuses_more (suc n) o v h = rw sub-one
+
+module _ (n : ℕ) (o : Operator) (more : n ≡ 0 → ⊥) where
+  pub minus_int_lem : (p : Operator) (x y : ℤ) (r : Option Against) → p ≡ swap_of o → negated x ≡ Some y → Turns (minuses (n - 1) p) (Int y) r
+      → Turns (minuses n o) (Int x) r
+  minus_int_lem p x y r e h t = record { value = λ pool. t.value pool ∙ rw (e, minuses_more n o (int x) more, h); inside = t.inside; fits = t.fits }
