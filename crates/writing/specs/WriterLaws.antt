@@ -1,15 +1,17 @@
 -- How written parts join, said of a writer before and after: WritingLaws with the writer's parts put in. Assumes nothing.
-use Rattle.std.specs.Prelude.{List, [], ◌∷◌, ◌++◌, ℕ, ◌+◌, length}
+use Rattle.std.specs.Prelude.{◌≡◌, refl, Bool, List, [], ◌∷◌, ◌++◌, ℕ, ◌+◌, length}
 use Rattle.std.proofs.Common.{◌∙◌}
 use Rattle.kleene.specs.declared.Joining.{Joining}
 use Rattle.predicate.specs.declared.Column.{Column}
-use Rattle.table.specs.Tables.{Table, both, negation}
+use Rattle.statistics.specs.declared.Statistic.{Statistic}
+use Rattle.table.specs.Tables.{Table, always, both, negation}
 use Rattle.table.specs.Comparisons.{wrapped}
 use Rattle.table.specs.Nests.{join_word}
+use Rattle.table.specs.Encoding.{pool_of, table_words}
 use Rattle.table.specs.Measures.{table_width}
 use Rattle.listing.specs.Listing.{list_of, Few}
 use Rattle.writing.specs.declared.Writer.{Writer}
-use Rattle.writing.specs.Writing.{WideFor, RoomFor, Keeps, HeadBy, WroteBy}
+use Rattle.writing.specs.Writing.{Wrote, WideFor, RoomFor, Keeps, HeadBy, WroteBy}
 use Rattle.writing.specs.WritingLaws.{not_word, wrap_words, head_then, wrote_wrapped, wrote_negation, wrote_both, wide_head, wide_wrote, room_wrapped, room_negation, room_word, room_left, room_right}
 
 -- what is kept twice over
@@ -78,3 +80,15 @@ module _ (j : Joining) (x y : Table) (w : Writer) (m : RoomFor (both j x y) w) w
     room_right_by b p =
         let p' = rw h.pool at p.wrote in
         room_right j x y w.at a.at w.table.now a.table.now w.pool.now m h.head (list_of a.list.now) b.at b.table.now b.pool.now p'
+
+-- ---- a table that puts nothing in the pool is written for every pool, and one that names no statistic for every list
+
+pub written_for : (t : Table) (list : List Statistic) (pool : List ℕ) (w v : Writer) → WroteBy t w v → pool_of t ≡ []
+    → table_words list w.at.off t ≡ table_words (list_of w.list.now) w.at.off t → Wrote t list w.at w.table.now v.table.now pool pool v.at
+written_for t list pool w v p e f =
+    record { answer = p.wrote.answer; table = p.wrote.table ∙ rw f; pool = rw e }
+
+pub always_for : (b : Bool) (list : List Statistic) (pool : List ℕ) (w v : Writer) → WroteBy (always b) w v
+    → Wrote (always b) list w.at w.table.now v.table.now pool pool v.at
+unfolding table_words pool_of
+always_for b list pool w v p = written_for (always b) list pool w v p refl refl
