@@ -69,31 +69,31 @@ pub fn flag_of(t: Truth, dropped: bool) -> u8
     u8::from(!matches!(t, Truth::False) && !dropped)
 }
 
-// The flag of the container with this row of cells; its answers begin at a place.
-pub fn container_flag(c: &Call<'_>, row: &[u8], at: usize) -> u8
-    requires { Ready (list_of c.now.list.now) c.now.pool.now (words_of c.now.table.now) max_table_depth 0 × (at + length c.now.guarantees.now / 8 < 2 ^ 64) }
-    ensures { result ≡ flag_of (worth (row_cells c.now.cells.now (list_of c.now.list.now) (words_of row.now)) (table_at (list_of c.now.list.now) c.now.pool.now (words_of c.now.table.now) max_table_depth 0).table) (answers_drop c.now.answers.now (words_of c.now.guarantees.now) at) }
+// The flag of a container; its answers begin at a place.
+pub fn container_flag(c: &Call<'_>, container: &Container<'_>, at: usize) -> u8
+    requires { Ready (list_of c.now.list.now) container.now.pool.now (words_of container.now.table.now) max_table_depth 0 × (at + length c.now.guarantees.now / 8 < 2 ^ 64) }
+    ensures { result ≡ flag_of (worth (row_cells container.now.cells.now (list_of c.now.list.now) (words_of container.now.row.now)) (table_at (list_of c.now.list.now) container.now.pool.now (words_of container.now.table.now) max_table_depth 0).table) (answers_drop c.now.answers.now (words_of c.now.guarantees.now) at) }
 {
-    let container = Container {
-        table: c.table,
-        pool: c.pool,
-        row,
-        cells: c.cells,
-    };
-    let t = evaluating::evaluate(c.list, &container);
+    let t = evaluating::evaluate(c.list, container);
     flag_of(t, answers_drop(c.answers, c.guarantees, at))
 }
 
-// Writes the flag of each container; the grid holds a row for each.
+// Writes the flag of each container; the grid holds a row for each. From one to the next only the row differs.
 pub fn prune_flags(c: &Call<'_>, flags: &mut [u8])
     requires { Fits c.now.list.now c.now.pool.now c.now.table.now c.now.guarantees.now c.now.grid.now c.now.containers (length flags.old) }
     ensures { flags.new ≡ sets flags.old 0 (flags_for c.now.list.now c.now.pool.now c.now.table.now c.now.guarantees.now c.now.cells.now c.now.grid.now c.now.answers.now 0 c.now.containers) }
 {
     let wide = 8 * (c.list.len() / 8);
     let each = c.guarantees.len() / 8;
+    let mut container = Container {
+        table: c.table,
+        pool: c.pool,
+        row: &c.grid[..0],
+        cells: c.cells,
+    };
     for i in 0..c.containers {
         let from = i * wide;
-        let row = &c.grid[from..from + wide];
-        flags[i] = container_flag(c, row, i * each);
+        container.row = &c.grid[from..from + wide];
+        flags[i] = container_flag(c, &container, i * each);
     }
 }

@@ -1,8 +1,8 @@
 // Three-valued logic by constant tables, a form that document 01 names.
 #![tactic(auto)]
 
-ghost use Rattle.std.specs.Prelude.{◌≡◌};
-ghost use Rattle.kleene.specs.Truths.{kleene_and, kleene_or, kleene_not, kleene};
+ghost use Rattle.std.specs.Prelude.{◌≡◌, ◌<◌};
+ghost use Rattle.kleene.specs.Truths.{place_of, kleene_and, kleene_or, kleene_not, kleene};
 
 #[derive(Clone, Copy, PartialEq, Eq)]
 pub enum Truth {
@@ -33,25 +33,37 @@ impl Truth {
 
     const NOT: [Truth; 3] = [Truth::True, Truth::Unknown, Truth::False];
 
+    // The place of a truth value in a table.
+    fn place(self) -> usize
+        ensures { (result ≡ place_of self) × (result < 3) }
+    {
+        self as usize
+    }
+
     // AND of two truth values.
     pub fn and(self, b: Truth) -> Truth
         ensures { result ≡ kleene_and self b }
     {
-        Truth::AND[self as usize][b as usize]
+        let i = self.place();
+        let j = b.place();
+        Truth::AND[i][j]
     }
 
     // OR of two truth values.
     pub fn or(self, b: Truth) -> Truth
         ensures { result ≡ kleene_or self b }
     {
-        Truth::OR[self as usize][b as usize]
+        let i = self.place();
+        let j = b.place();
+        Truth::OR[i][j]
     }
 
     // NOT of a truth value.
     pub fn not(self) -> Truth
         ensures { result ≡ kleene_not self }
     {
-        Truth::NOT[self as usize]
+        let i = self.place();
+        Truth::NOT[i]
     }
 }
 

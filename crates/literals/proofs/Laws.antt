@@ -22,7 +22,7 @@ signed_is n h = go (ltb n (2 ^ 63)) refl
         ap (cast_signed w64) m ∙ to_z-neg w64 k (omega arith) ∙ sym (signed_high n g)
 
 -- minus an integer of 64 bits but the least has 64 bits
-neg_fits : (z : ℤ) → FitsSigned w64 z → (z ≡ least_integer → ⊥) → FitsSigned w64 (neg_ℤ z)
+pub neg_fits : (z : ℤ) → FitsSigned w64 z → (z ≡ least_integer → ⊥) → FitsSigned w64 (neg_ℤ z)
 neg_fits (pos zero) f h = f
 neg_fits (pos (suc n)) f h = record { sfits = omega (arith, f.sfits) }
 neg_fits (negsuc n) f h =
@@ -30,7 +30,7 @@ neg_fits (negsuc n) f h =
     record { sfits = omega arith }
 
 -- the least is the one whose bits are 2 ^ 63
-bits_least : (z : ℤ) → FitsSigned w64 z → cast_unsigned w64 z ≡ 2 ^ 63 → z ≡ least_integer
+pub bits_least : (z : ℤ) → FitsSigned w64 z → cast_unsigned w64 z ≡ 2 ^ 63 → z ≡ least_integer
 bits_least (pos n) f e = absurd (omega arith)
 bits_least (negsuc n) f e = ap negsuc (omega arith)
 

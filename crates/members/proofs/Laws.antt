@@ -216,12 +216,12 @@ nest_width : (j : Joining) (t : Table) (us : List Table) → table_width (nest j
 nest_width j t [] = omega arith
 nest_width j t (u ∷ us) = let h = nest_width j (both j t u) us in omega arith
 
-nest_wide : (j : Joining) (s : Spot) (old pool : List ℕ) (m : ℕ) (ts : List Table) → m ≡ length ts → 0 < m → Room (nest_of j ts) s old pool → Wide (m - 1) s old
+pub nest_wide : (j : Joining) (s : Spot) (old pool : List ℕ) (m : ℕ) (ts : List Table) → m ≡ length ts → 0 < m → Room (nest_of j ts) s old pool → Wide (m - 1) s old
 nest_wide j s old pool m [] e h room = absurd (omega arith)
 nest_wide j s old pool m (x ∷ us) e h room = let w = room.words in let n = nest_width j x us in omega arith
 
 module _ (j : Joining) (s t : Spot) (old mid pool : List ℕ) where
-  nest_rooms : (m : ℕ) (ts : List Table) → m ≡ length ts → 0 < m → Room (nest_of j ts) s old pool → Head (replicate (m - 1) (join_word j)) s old mid t → Rooms ts t mid pool
+  pub nest_rooms : (m : ℕ) (ts : List Table) → m ≡ length ts → 0 < m → Room (nest_of j ts) s old pool → Head (replicate (m - 1) (join_word j)) s old mid t → Rooms ts t mid pool
   nest_rooms m [] e h room k = absurd (omega arith)
   nest_rooms m (x ∷ us) e h room k =
       let w = room.words in
@@ -233,7 +233,7 @@ module _ (j : Joining) (s t : Spot) (old mid pool : List ℕ) where
       let q = rw (nest_pool j x us) at room.small in
       rw (k'.answer, k'.table) (record { words = rw length-sets (omega arith); bytes = p; small = q })
 
-  nest_wrote : (list : List Statistic) (r : Spot) (new new_pool : List ℕ) (m : ℕ) (ts : List Table) → m ≡ length ts → 0 < m
+  pub nest_wrote : (list : List Statistic) (r : Spot) (new new_pool : List ℕ) (m : ℕ) (ts : List Table) → m ≡ length ts → 0 < m
       → Head (replicate (m - 1) (join_word j)) s old mid t → Ran ts list t mid new pool new_pool r → Wrote (nest_of j ts) list s old new pool new_pool r
   nest_wrote list r new new_pool m [] e h k a = absurd (omega arith)
   nest_wrote list r new new_pool m (x ∷ us) e h k a =

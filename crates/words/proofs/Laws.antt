@@ -1,12 +1,13 @@
 -- What a copy into a slice stores, bytes read as a word, and the library's order of byte strings. Assumes nothing.
-use Rattle.std.proofs.Common.{◌≡◌, refl, sym, ◌∙◌, ap, List, [], ◌∷◌, ◌++◌, drop, w64, ℕ, ◌+◌, ◌≤◌, ◌<◌, Bool, true, false, length, take, ◌-◌, take_all, length-drop, add-zero, arith, append_assoc, ltb, ltb-true, ltb-false, nat_cmp, Less, Equal, Greater}
-use Rattle.std.proofs.Math.Seq.{paste}
+use Rattle.std.proofs.Common.{◌≡◌, refl, sym, ◌∙◌, List, [], ◌∷◌, drop, w64, ℕ, ◌+◌, ◌≤◌, ◌<◌, Bool, true, false, length, take, ◌-◌, take_all, length-drop, length-take-le, set, get_or, add-zero, add-one, arith, append_assoc, ltb, ltb-true, ltb-false, nat_cmp, Less, Equal, Greater}
+use Rattle.std.proofs.Math.Seq.{paste, take-suc, get_or-drop}
 use Rattle.std.proofs.lemmas.List.Edits.{sets, sets-eq, paste_all}
 use Rattle.std.specs.Cmp.{nat_cmp_is}
 use Rattle.std.specs.Cmp.Lexicographic.{slice_cmp}
 use Rattle.std.specs.Int.{from_be_bytes}
 use Rattle.std.proofs.Math.ListN.{get_or-eq_default}
 use Rattle.words.specs.Word.{word_at}
+use Rattle.words.specs.Stores.{sets_then}
 use Rattle.words.specs.WordLaws.{word_drop}
 use Rattle.words.specs.Bytes.{below, byte_order, below_first, order_below, order_above, order_self}
 
@@ -19,21 +20,13 @@ be_word : (l : List ℕ) → from_be_bytes w64 l ≡ word_at l 0
 unfolding word_at
 be_word l = omega arith
 
--- fewer than eight bytes, and zeros for the rest
-filled : (s : List ℕ) → length s < 8 → word_at (s ++ drop (length s) (0 ∷ 0 ∷ 0 ∷ 0 ∷ 0 ∷ 0 ∷ 0 ∷ 0 ∷ [])) 0 ≡ word_at s 0
-unfolding word_at
-filled [] h = refl
-filled (a ∷ []) h = refl
-filled (a ∷ b ∷ []) h = refl
-filled (a ∷ b ∷ c ∷ []) h = refl
-filled (a ∷ b ∷ c ∷ d ∷ []) h = refl
-filled (a ∷ b ∷ c ∷ d ∷ e ∷ []) h = refl
-filled (a ∷ b ∷ c ∷ d ∷ e ∷ f ∷ []) h = refl
-filled (a ∷ b ∷ c ∷ d ∷ e ∷ f ∷ g ∷ []) h = refl
-filled (a ∷ b ∷ c ∷ d ∷ e ∷ f ∷ g ∷ x ∷ s) h = absurd (omega arith)
-
-pub filled_word : (s : List ℕ) → length s < 8 → from_be_bytes w64 (s ++ drop (length s) (0 ∷ 0 ∷ 0 ∷ 0 ∷ 0 ∷ 0 ∷ 0 ∷ 0 ∷ [])) ≡ word_at s 0
-filled_word s h = be_word (s ++ drop (length s) (0 ∷ 0 ∷ 0 ∷ 0 ∷ 0 ∷ 0 ∷ 0 ∷ 0 ∷ [])) ∙ filled s h
+-- one byte more of a copy from s at at into d at to
+pub copy_more : (d : List ℕ) (to : ℕ) (s : List ℕ) (at j : ℕ) → at + j < length s → set (sets d to (take j (drop at s))) (to + j) (get_or s (at + j) 0) ≡ sets d to (take (j + 1) (drop at s))
+copy_more d to s at j k =
+    let g : j < length (drop at s) = rw length-drop (omega arith) in
+    let m : length (take j (drop at s)) ≡ j = length-take-le j (drop at s) (omega arith) in
+    rw (← get_or-drop at s j 0, add-one, take-suc (drop at s) j 0 g)
+    (sets_then d to (to + j) (take j (drop at s)) (get_or (drop at s) j 0 ∷ []) (rw m))
 
 -- past the end all bytes count as 0
 pub word_past : (s : List ℕ) (at : ℕ) → length s ≤ at → word_at s at ≡ 0

@@ -56,15 +56,28 @@ pub fn word_at(s: &[u8], at: usize) -> u64
     ])
 }
 
-// The word of fewer than eight bytes, the missing ones 0.
-#[tactic(auto, using(crate::proofs::Laws::filled_word))]
+// The byte at index at, and 0 past the end.
+fn byte_or_zero(s: &[u8], at: usize) -> u8
+    ensures { result ≡ get_or s.now at 0 }
+{
+    s.get(at).copied().unwrap_or(0)
+}
+
+// The word of fewer than eight bytes, the missing ones 0; byte by byte, as a copy would want memcpy from outside the archive.
+#[tactic(auto, unfolding(crate::specs::Word::word_at))]
 fn cut_word(s: &[u8]) -> u64
-    requires { length s.now < 8 }
     ensures { result ≡ word_at s.now 0 }
 {
-    let mut bytes = [0; 8];
-    bytes[..s.len()].copy_from_slice(s);
-    u64::from_be_bytes(bytes)
+    u64::from_be_bytes([
+        byte_or_zero(s, 0),
+        byte_or_zero(s, 1),
+        byte_or_zero(s, 2),
+        byte_or_zero(s, 3),
+        byte_or_zero(s, 4),
+        byte_or_zero(s, 5),
+        byte_or_zero(s, 6),
+        byte_or_zero(s, 7),
+    ])
 }
 
 // The word whose bytes begin at index at, wherever that is; a byte past the end counts as 0.
@@ -102,12 +115,14 @@ pub fn put_word(out: &mut [u8], at: usize, w: u64)
     out[at..at + 8].copy_from_slice(&w.to_be_bytes());
 }
 
-// Stores len bytes of from, which stand at index at, into out from index to on.
+// Stores len bytes of from, which stand at index at, into out from index to on; a copy of slices would want memmove from outside.
 pub fn copy_part(from: &[u8], at: usize, len: usize, out: &mut [u8], to: usize)
     requires { (at + len ≤ length from.now) × (to + len ≤ length out.old) }
     ensures { out.new ≡ sets out.old to (take len (drop at from.now)) }
 {
-    out[to..to + len].copy_from_slice(&from[at..at + len]);
+    for j in 0..len {
+        out[to + j] = from[at + j];
+    }
 }
 
 // A range cut to what a pool has.

@@ -5,4 +5,6 @@ use Rattle.flagging.specs.Flags.{flags_for}
 use Rattle.flagging.proofs.prune_flags.Given as goal
 
 abbrev pub invariant-loop-i : goal.invariant-loop-i
-invariant-loop-i l = l.flags ≡ sets l.initial.flags 0 (flags_for l.c.list.now l.c.pool.now l.c.table.now l.c.guarantees.now l.c.cells.now l.c.grid.now l.c.answers.now 0 l.i)
+invariant-loop-i l =
+    (l.container.table.now ≡ l.c.table.now) × (l.container.pool.now ≡ l.c.pool.now) × (l.container.cells.now ≡ l.c.cells.now)
+    × (l.flags ≡ sets l.initial.flags 0 (flags_for l.c.list.now l.c.pool.now l.c.table.now l.c.guarantees.now l.c.cells.now l.c.grid.now l.c.answers.now 0 l.i))

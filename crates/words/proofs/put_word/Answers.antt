@@ -1,5 +1,5 @@
 -- A word's bytes are those read high byte first. Assumes nothing.
-use Rattle.std.proofs.Common.{arith, take, drop, ◌∙◌, ◌+◌, ◌-◌}
+use Rattle.std.proofs.Common.{arith, ◌∙◌, ◌+◌, ◌-◌}
 use Rattle.std.proofs.lemmas.Slice.{put_mid-paste}
 use Rattle.words.specs.Word.{word_bytes}
 use Rattle.words.proofs.Laws.{paste_sets}
