@@ -2,7 +2,7 @@
 use mathlib.Core.Path.{◌≡◌, refl, sym, ap, ◌∙◌}
 use mathlib.Core.List.{List, [], ◌∷◌, ◌++◌}
 use mathlib.Core.Option.{Option, some, none}
-use Prim.Native.Nat.{ℕ, ◌+◌, ◌-◌, ◌≤◌, ◌<◌}
+use Prim.Native.Nat.{ℕ, ◌+◌, ◌≤◌, ◌<◌}
 use native.Mathlib.Omega.{arith}
 use lib.ListN.{length, take, length-append}
 use lib.Seq.{sets, sets-eq, length-take-le, take-take, take-append_seam}
@@ -12,8 +12,6 @@ use Rattle.text.specs.Increment.{Raises, Raise, rise, rise_room, rise_front, ris
 use Rattle.text.specs.Chars.{chars_of, bytes_chars, incremented}
 use Rattle.increment.proofs.Last.{last_bytes}
 use Rattle.std.specs.Prelude.{Some, None}
-use Rattle.std.proofs.lemmas.Grind.{common_steps}
-use borrow.Rule.Slice.PartMut.{put_mid}
 use Rattle.increment.specs.Outcome.{place_of, Outcome}
 
 -- what an answer of the search says of the parts
@@ -33,13 +31,6 @@ placed (some x) at d e =
 unplaced : (o : Option Raise) → None ≡ place_of o → o ≡ none
 unplaced none e = refl
 unplaced (some x) e = let z : ◌≡◌ {A = ℕ} 0 1 = cc in absurd (omega arith)
-
--- what a part of a buffer is set to by copying a slice over it
-pub put_is : (l ys : List ℕ) (at n : ℕ) → n ≡ at + length ys → n ≤ length l → put_mid at (n - at) l ys ≡ sets l at ys
-put_is l ys at n e h =
-    let k : n - at ≡ length ys = omega arith in
-    let d : at + length ys ≤ length l = omega arith in
-    rw (k, sets-eq ys l at d) (grind (arith, common_steps))
 
 -- the first len bytes of old are the characters cs, of which x is what the search finds
 module _ (f : ℕ → Option ℕ) (rs : Raises f) (old : List ℕ) (len : ℕ) (room : len < length old) (cs : List ℕ) (b : bytes_of cs ≡ take len old)
