@@ -6,6 +6,7 @@
 #![tactic(auto)]
 
 ghost use Rattle.std.specs.Prelude.{◌≤◌, ◌<◌, length, IfSome};
+ghost use Rattle.replay_refusals.specs.Reading.{Leads};
 
 use predicate::Rooms;
 use std::fs::File;
@@ -38,6 +39,10 @@ impl<const N: usize> Buffer<N> {
         self.len == N
     }
 
+    fn clear(&mut self) {
+        self.len = 0;
+    }
+
     // Puts a byte behind the others so many times, if there is room.
     fn put(&mut self, byte: u8, times: usize) -> Option<()> {
         if N - self.len < times {
@@ -46,6 +51,29 @@ impl<const N: usize> Buffer<N> {
         let room = &mut self.room[..];
         room[self.len..self.len + times].fill(byte);
         self.len += times;
+        Some(())
+    }
+
+    // Puts bytes behind the others, as many as there is room for.
+    fn append(&mut self, bytes: &[u8]) {
+        let n = bytes.len().min(N - self.len);
+        let room = &mut self.room[..];
+        room[self.len..self.len + n].copy_from_slice(&bytes[..n]);
+        self.len += n;
+    }
+
+    // Reads a field's bytes in place of those that it has.
+    fn fill(&mut self, field: &[u8]) -> Option<()> {
+        self.clear();
+        if field == b"-".as_slice() {
+            return Some(());
+        }
+        let mut rest = field;
+        while !rest.is_empty() {
+            let run = run_of(rest)?;
+            self.put(run.byte, run.times)?;
+            rest = run.rest;
+        }
         Some(())
     }
 }
@@ -66,10 +94,20 @@ struct Counts {
     unread: u64,
 }
 
-// A file as it is replayed: the line so far, and the counts of the lines before it.
+// The fields of a line that are bytes. One serves every line: to make one writes a zero in each place of each room.
+#[derive(Drop)]
+struct Fields {
+    schema: Buffer<512>,
+    predicate: Buffer<4096>,
+    pool: Buffer<66000>,
+    answer: Buffer<8>,
+}
+
+// A file as it is replayed: the line so far, room for its fields, and the counts of the lines before it.
 #[derive(Drop)]
 struct Replay {
     line: Buffer<4096>,
+    fields: Fields,
     counts: Counts,
 }
 
@@ -101,7 +139,7 @@ fn digit(b: u8) -> Option<u8>
 
 // The run at the front of a field.
 fn run_of(field: &[u8]) -> Option<Run<'_>>
-    ensures { IfSome result (λ r. length r.rest.now < length field.now) }
+    ensures { Leads 0 (length field.now) result }
 {
     let [high, low, rest @ ..] = field else {
         return None;
@@ -122,52 +160,39 @@ fn run_of(field: &[u8]) -> Option<Run<'_>>
     })
 }
 
-// A field's bytes.
-fn bytes_of<const N: usize>(field: &[u8]) -> Option<Buffer<N>> {
-    let mut out = Buffer::new();
-    if field == b"-".as_slice() {
-        return Some(out);
+impl Fields {
+    // Calls rewriting's checks, and says whether the answer is the recorded one.
+    fn replay(&mut self, line: &[u8]) -> Option<bool> {
+        let mut fields = line.split(|b| *b == b' ').skip(1);
+        self.schema.fill(fields.next()?)?;
+        self.predicate.fill(fields.next()?)?;
+        self.pool.fill(fields.next()?)?;
+        let mut n = [0; 5];
+        for x in &mut n {
+            *x = number_of(fields.next()?)?;
+        }
+        self.answer.fill(fields.next()?)?;
+        if !self.answer.is_full() {
+            return None;
+        }
+        let request = Request {
+            schema: self.schema.bytes(),
+            pool: self.pool.bytes(),
+            words: self.predicate.bytes(),
+            limit: n[0],
+        };
+        let rooms = Rooms {
+            table: n[1],
+            pool: n[2],
+            statistics: n[3],
+            guarantees: n[4],
+        };
+        let fault = match checking::rewrite_fault(&request, rooms) {
+            Ok(()) => 0,
+            Err(refusal) => u8::from(refusal),
+        };
+        Some(self.answer.room == [fault, 0, 0, 0, 0, 0, 0, 0])
     }
-    let mut rest = field;
-    while !rest.is_empty() {
-        let run = run_of(rest)?;
-        out.put(run.byte, run.times)?;
-        rest = run.rest;
-    }
-    Some(out)
-}
-
-// Calls rewriting's checks, and says whether the answer is the recorded one.
-fn replay_line(line: &[u8]) -> Option<bool> {
-    let mut fields = line.split(|b| *b == b' ').skip(1);
-    let schema = bytes_of::<512>(fields.next()?)?;
-    let predicate = bytes_of::<4096>(fields.next()?)?;
-    let pool = bytes_of::<66000>(fields.next()?)?;
-    let mut n = [0; 5];
-    for x in &mut n {
-        *x = number_of(fields.next()?)?;
-    }
-    let answer = bytes_of::<8>(fields.next()?)?;
-    if answer.len < 8 {
-        return None;
-    }
-    let request = Request {
-        schema: schema.bytes(),
-        pool: pool.bytes(),
-        words: predicate.bytes(),
-        limit: n[0],
-    };
-    let rooms = Rooms {
-        table: n[1],
-        pool: n[2],
-        statistics: n[3],
-        guarantees: n[4],
-    };
-    let fault = match checking::rewrite_fault(&request, rooms) {
-        Ok(()) => 0,
-        Err(refusal) => u8::from(refusal),
-    };
-    Some(answer.room == [fault, 0, 0, 0, 0, 0, 0, 0])
 }
 
 impl Counts {
@@ -190,18 +215,19 @@ impl Replay {
         let same = if self.line.is_full() {
             None
         } else {
-            replay_line(self.line.bytes())
+            self.fields.replay(self.line.bytes())
         };
         self.counts.count(same);
-        self.line = Buffer::new();
+        self.line.clear();
     }
 
-    // Takes in one byte.
-    fn take(&mut self, byte: u8) {
-        if byte == b'\n' {
-            self.end_line();
-        } else {
-            let _ = self.line.put(byte, 1);
+    // Takes in a part of the file. Each piece of it but the first begins a line, so it ends the one before.
+    fn take(&mut self, part: &[u8]) {
+        for (i, piece) in part.split(|b| *b == b'\n').enumerate() {
+            if 0 < i {
+                self.end_line();
+            }
+            self.line.append(piece);
         }
     }
 
@@ -216,9 +242,7 @@ impl Replay {
                 }
                 return Ok(());
             }
-            for b in &part[..n] {
-                self.take(*b);
-            }
+            self.take(&part[..n]);
         }
         Ok(())
     }
@@ -228,6 +252,12 @@ impl Replay {
 fn replay_named(rt: &impl Files, name: &str) -> io::Result<Counts> {
     let mut replay = Replay {
         line: Buffer::new(),
+        fields: Fields {
+            schema: Buffer::new(),
+            predicate: Buffer::new(),
+            pool: Buffer::new(),
+            answer: Buffer::new(),
+        },
         counts: Counts {
             replayed: 0,
             differ: 0,
