@@ -125,7 +125,12 @@ fn end_of(table: &[u8], depth: usize, at: usize) -> usize
 {
     let left = depth - 1;
     let child = at + 1;
-    match Kind::of_number(pruning::kind_of(node_word(table, at))) {
+    let kind = Kind::of_number(pruning::kind_of(node_word(table, at)));
+    // A constant is told first, by a test of its own: a table that rewriting didn't make may hold little else.
+    if kind == Some(Kind::Always) {
+        return child;
+    }
+    match kind {
         Some(Kind::And | Kind::Or) => end_of(table, left, end_of(table, left, child)),
         Some(Kind::Against) => at + 2,
         Some(Kind::Negation) => end_of(table, left, child),
