@@ -25,6 +25,7 @@ fn known_not(r: &Request<'_>, depth: usize, at: usize) -> Known
     }
     match predicate::node_at(r.pool, r.words, at) {
         Node::TruthColumn(_) => Known::Open,
+        Node::IsNull(_) => Known::True,
         _ => Known::True,
     }
 }
@@ -49,7 +50,8 @@ pub fn fold(r: &Request<'_>, depth: usize, at: usize) -> Walked<Known>
             return Walked { value, next };
         }
         Node::Not => known_not(r, depth - 1, at + 1),
-        Node::TruthColumn(_) | Node::IsNull(_) | Node::IsNotNull(_) => Known::Open,
+        Node::TruthColumn(_) | Node::IsNotNull(_) => Known::Open,
+        Node::IsNull(_) => Known::Open,
         Node::Comparison(o, c, n, b, l) => knowing::known_comparison(r.schema, o, c, n, b, l),
         Node::List(negated, column, flips, count) => {
             let m = Members {

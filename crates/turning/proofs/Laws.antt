@@ -96,6 +96,12 @@ turned_swap type NotDistinct flips first v d n = absurd (n refl)
 pub turns_as : (f g : Value → Turned) (l : Literal) (r : Option Against) → ((v : Value) → g v ≡ f v) → Turns f l r → Turns g l r
 turns_as f g l r e t = record { value = λ pool. t.value pool ∙ sym (e (value_of pool l)); inside = t.inside; fits = t.fits }
 
+-- an operator that has no swap, kept as it stands
+pub turned_kept : (type : ℕ) (o : Operator) (flips : ℕ) (first : Bool) (l : Literal) (r : Option Against) → (o ≡ Distinct) ⊎ (o ≡ NotDistinct)
+    → Turns (unturned flips first o) l r → Turns (turned type o flips first) l r
+turned_kept type o flips first l r e =
+    turns_as (unturned flips first o) (turned type o flips first) l r (λ v. turned_distinct type o flips first v e)
+
 -- ---- a minus of an integer, said of all the minuses
 
 minuses_more : (n : ℕ) (o : Operator) (v : Value) → (n ≡ 0 → ⊥) → minuses n o v ≡ minus (minuses (n - 1)) o v

@@ -101,6 +101,7 @@ fn keep(flips: u8, first: bool, a: Against) -> Option<Against>
 }
 
 // A comparison turned: rewrite_expr_to_prunable; a literal on the left is put right by reverse_operator.
+#[tactic(auto, using(crate::proofs::Laws::turned_kept))]
 pub fn turn(kind: u8, o: Operator, flips: u8, first: bool, l: Literal) -> Option<Against>
     ensures { Turns (turned kind o flips first) l result }
 {

@@ -33,7 +33,8 @@ pub fn skip(pool: &[u8], words: &[u8], depth: usize, at: usize) -> usize
             skip(pool, words, depth - 1, m)
         }
         Node::Not => skip(pool, words, depth - 1, at + 1),
-        Node::Comparison(..) | Node::Like(..) => at + 2,
+        Node::Comparison(..) => at + 2,
+        Node::Like(..) => at + 2,
         Node::List(_, _, _, count) => at + 1 + usize::from(count),
     }
 }

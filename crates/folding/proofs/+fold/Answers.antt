@@ -1,6 +1,7 @@
 -- Where the node was read, the predicate is the node's: a join of both sides, or what it comes to by itself. Assumes nothing.
 use borrow.Author.Rules.{rules}
 use mathlib.Core.Path.{sym, ◌∙◌}
+use mathlib.Core.Logic.{inl, inr}
 use Prim.Native.Nat.{◌-◌, ◌+◌}
 use Rattle.words.specs.Word.{words_of}
 use Rattle.literals.specs.Literals.{value_of}
@@ -10,7 +11,7 @@ use Rattle.table.specs.Rewriting.{rewritten}
 use Rattle.knowing.specs.Knowns.{known_like_lem}
 use Rattle.folding.proofs.Laws.{part_leaf, part_both, column_open}
 use Rattle.folding.proofs.+fold.Goals as goal
-use Rattle.folding.proofs.+fold.Goals.{in-Constant, in-Not, in-TruthColumn, in-Comparison, in-List, in-Like}
+use Rattle.folding.proofs.+fold.Goals.{in-Constant, in-Not, in-TruthColumn, in-IsNull, in-Comparison, in-List, in-Like}
 
 pub returns-then-depth-eq0 : goal.returns-then-depth-eq0
 unfolding rewritten
@@ -47,7 +48,11 @@ returns t c =
     (elim c.match-node_at.branch [
       | in-Constant w ↦ rw w.in-Constant.is (w.value-is ∙ w.known_constant-value.ensures)
       | in-Not w ↦ rw w.in-Not.is (w.value-is ∙ w.known_not-value.ensures)
-      | in-TruthColumn w ↦ w.value-is ∙ column_open r.limit r.schema.now f r.pool.now ws c.args.at _ w.in-TruthColumn.is
+      | in-TruthColumn w ↦
+          w.value-is
+          ∙ column_open r.limit r.schema.now f r.pool.now ws c.args.at _
+          (elim w.in-TruthColumn.is [ inl e ↦ inl e | inr e ↦ inr (inr e) ])
+      | in-IsNull w ↦ w.value-is ∙ column_open r.limit r.schema.now f r.pool.now ws c.args.at _ (inr (inl (_, w.in-IsNull.is)))
       | in-Comparison w ↦ rw w.in-Comparison.is (w.value-is ∙ w.known_comparison-value.ensures r.pool.now)
       | in-List w ↦ rw w.in-List.is (w.value-is ∙ w.known_list-value.ensures)
       | in-Like w ↦

@@ -1,15 +1,10 @@
--- An operator with a swap, and one without. Assumes nothing.
+-- An operator with a swap; one without is turned_kept's, which the function names. Assumes nothing.
 use Rattle.std.proofs.Common.{◌≡◌, cond}
 use Rattle.operators.specs.Operators.{swap_of}
-use Rattle.table.specs.Comparisons.{ordered, unturned, turned}
-use Rattle.turning.proofs.Laws.{turns_as, turned_distinct, turned_swap}
+use Rattle.table.specs.Comparisons.{ordered, turned}
+use Rattle.turning.proofs.Laws.{turns_as, turned_swap}
 use Rattle.turning.proofs.turn.Goals.{then-first, else-first}
 use Rattle.turning.proofs.turn.Goals as goal
-
-pub returns-in-Distinct : goal.returns-in-Distinct
-returns-in-Distinct c =
-    let a = c.args in
-    turns_as (unturned a.flips a.first a.o) (turned a.kind a.o a.flips a.first) a.l _ (λ v. turned_distinct a.kind a.o a.flips a.first v c.in-Distinct.is) c.keep.ensures
 
 pub returns-after-first : goal.returns-after-first
 returns-after-first c =

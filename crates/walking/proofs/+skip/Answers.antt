@@ -18,3 +18,6 @@ returns-in-Comparison t c = rw (read_node _ _ _ _ c.if-depth-eq0.false _ c.node_
 
 pub returns-in-List : goal.returns-in-List
 returns-in-List t c = rw (read_node _ _ _ _ c.if-depth-eq0.false _ c.node_at.ensures) (search rules)
+
+pub returns-in-Like : goal.returns-in-Like
+returns-in-Like t c = rw (read_node _ _ _ _ c.if-depth-eq0.false _ c.node_at.ensures) (search rules)
