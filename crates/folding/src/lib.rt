@@ -25,6 +25,7 @@ fn known_not(r: &Request<'_>, depth: usize, at: usize) -> Known
     }
     match predicate::node_at(r.pool, r.words, at) {
         Node::TruthColumn(_) => Known::Open,
+        // IS NULL has an arm of its own, so that an edit tries it alone; so it has in fold
         Node::IsNull(_) => Known::True,
         _ => Known::True,
     }

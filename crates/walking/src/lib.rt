@@ -34,6 +34,7 @@ pub fn skip(pool: &[u8], words: &[u8], depth: usize, at: usize) -> usize
         }
         Node::Not => skip(pool, words, depth - 1, at + 1),
         Node::Comparison(..) => at + 2,
+        // a pattern has an arm of its own, so that an edit tries it alone
         Node::Like(..) => at + 2,
         Node::List(_, _, _, count) => at + 1 + usize::from(count),
     }
