@@ -15,6 +15,6 @@ loop-i-preserved c =
       i.1,
       i.2,
       rw i.3
-      (flag_stored x.list.now x.pool.now x.table.now x.guarantees.now x.cells.now x.grid.now x.answers.now c.args.flags.now l.i c.container_flag.result
-      (flag_at x.list.now x.pool.now x.table.now x.guarantees.now x.cells.now x.grid.now x.answers.now l.i _ _ c.container_flag.result refl refl (rw (i.0, i.1, i.2) at c.container_flag.ensures))),
+          (flag_stored x.list.now x.pool.now x.table.now x.guarantees.now x.cells.now x.grid.now x.answers.now c.args.flags.now l.i c.container_flag.result
+          (flag_at x.list.now x.pool.now x.table.now x.guarantees.now x.cells.now x.grid.now x.answers.now l.i _ _ c.container_flag.result refl refl (rw (i.0, i.1, i.2) at c.container_flag.ensures))),
     )
